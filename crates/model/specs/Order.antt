@@ -31,3 +31,14 @@ pub record FirstFault {F : Type 0} (A : F → Type 0) (numbers : F → Fault) (o
   pub finding : F
   pub numbered : f ≡ numbers finding
   pub first : First A o finding
+
+-- what a search through an order answers: nothing applies, or the fault of the first that does
+abbrev pub Answered : {F : Type 0} → (F → Type 0) → (F → Fault) → Order F → Result (Unit {0}) Fault → Type 0
+Answered A numbers o (Ok u) = Nothing A o
+Answered A numbers o (Err f) = FirstFault A numbers o f
+
+-- the same order, of what is made of each finding
+abbrev pub under : {F G : Type 0} → (F → G) → Order F → Order G
+under m (one f) = one (m f)
+under m (x then y) = under m x then under m y
+under m (each n g) = each n (λ i. under m (g i))

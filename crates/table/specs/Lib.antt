@@ -1,0 +1,5 @@
+pub mod Bytes
+pub mod Header
+pub mod Layout
+pub mod Lines
+pub mod SystemOf

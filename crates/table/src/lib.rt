@@ -1,0 +1,6 @@
+// The table file, read where it lies.
+pub mod bytes;
+pub mod header;
+pub mod layout;
+pub mod line;
+pub mod view;
