@@ -40,10 +40,12 @@ module _ {F : Type 0} (A : F → Type 0) (numbers : F → Fault) where
   first-only (x then y) f g (inr a) (inl b) = absurd (not-both x g (a .0) b)
   first-only (x then y) f g (inr a) (inr b) = first-only y f g (a .1) (b .1)
   first-only (each n h) f g (i, l, a, p) (j, m, b, q) = elim (cases-lt i j) [
-        inl lt ↦ absurd (not-both (h i) f (q i lt) a)
-        | inr ge ↦ elim (cases-eq i j) [
-            inl e ↦ first-only (h i) f g a (subst (λ (z : ℕ). First A (h z) g) (sym e) b)
-            | inr ne ↦ absurd (not-both (h j) g (p j (omega arith)) b) ] ]
+    | inl lt ↦ absurd (not-both (h i) f (q i lt) a)
+    | inr ge ↦ elim (cases-eq i j) [
+      | inl e ↦ first-only (h i) f g a (subst (λ (z : ℕ). First A (h z) g) (sym e) b)
+      | inr ne ↦ absurd (not-both (h j) g (p j (omega arith)) b)
+    ]
+  ]
 
   pub fault-only : (o : Order F) (f g : Fault) → FirstFault A numbers o f → FirstFault A numbers o g → f ≡ g
   fault-only o f g a b = a .numbered ∙ ap numbers (first-only o (a .finding) (b .finding) (a .first) (b .first)) ∙ sym (b .numbered)

@@ -27,8 +27,9 @@ module _ {F : Type 0} (A : F → Type 0) where
   joined-first : (n : ℕ) (g : ℕ → List F) (i : ℕ) (f : F) → i < n → FirstIn A (g i) f → ((j : ℕ) → j < i → All (λ (x : F). A x → ⊥) (g j)) → FirstIn A (joined n g) f
   joined-first zero g i f l h b = absurd (omega arith)
   joined-first (suc n) g i f l h b = elim (cases-eq i n) [
-        inl e ↦ first-right (joined n g) (g n) f (joined-none n g (λ j k. b j (omega arith))) (subst (λ (z : ℕ). FirstIn A (g z) f) e h)
-        | inr ne ↦ first-left (joined n g) (g n) f (joined-first n g i f (omega arith) h b) ]
+    | inl e ↦ first-right (joined n g) (g n) f (joined-none n g (λ j k. b j (omega arith))) (subst (λ (z : ℕ). FirstIn A (g z) f) e h)
+    | inr ne ↦ first-left (joined n g) (g n) f (joined-first n g i f (omega arith) h b)
+  ]
 
   pub nothing-laid : (o : Order F) → Nothing A o → All (λ (g : F). A g → ⊥) (laid o)
   nothing-laid (one f) n = (n, tt)

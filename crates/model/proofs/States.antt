@@ -23,19 +23,23 @@ over-back m e (x ∷ Q) h o = (o .0, over-back m e Q h (o .1))
 module _ (S : System) where
   pub is-set : (s : State) (i l : ℕ) (Q : List ℕ) → IsState S s → i < machines S → l < statesOf S i → Over (S .events) Q → IsState S (set s i (l, Q))
   is-set s i l Q is h hl o = record {
-        entries = length-set s i (l, Q) ∙ is .entries;
-        locals = λ j hj. elim (cases-eq j i) [
-            inl e ↦ subst (λ (x : ℕ). localAt (set s i (l, Q)) x < statesOf S x) (sym e) (subst (λ (x : ℕ × List ℕ). x .0 < statesOf S i) (sym (getD-set-same s i (l, Q) (0, []) (omega (arith, is .entries)))) hl)
-            | inr ne ↦ subst (λ (x : ℕ × List ℕ). x .0 < statesOf S j) (sym (getD-set-other s i j (l, Q) (0, []) ne)) (is .locals j hj) ];
-        queues = λ j hj. elim (cases-eq j i) [
-            inl e ↦ subst (λ (x : ℕ). Over (S .events) (queueAt (set s i (l, Q)) x)) (sym e) (subst (λ (x : ℕ × List ℕ). Over (S .events) (x .1)) (sym (getD-set-same s i (l, Q) (0, []) (omega (arith, is .entries)))) o)
-            | inr ne ↦ subst (λ (x : ℕ × List ℕ). Over (S .events) (x .1)) (sym (getD-set-other s i j (l, Q) (0, []) ne)) (is .queues j hj) ] }
+    entries = length-set s i (l, Q) ∙ is .entries;
+    locals = λ j hj. elim (cases-eq j i) [
+      | inl e ↦ subst (λ (x : ℕ). localAt (set s i (l, Q)) x < statesOf S x) (sym e) (subst (λ (x : ℕ × List ℕ). x .0 < statesOf S i) (sym (getD-set-same s i (l, Q) (0, []) (omega (arith, is .entries)))) hl)
+      | inr ne ↦ subst (λ (x : ℕ × List ℕ). x .0 < statesOf S j) (sym (getD-set-other s i j (l, Q) (0, []) ne)) (is .locals j hj)
+    ];
+    queues = λ j hj. elim (cases-eq j i) [
+      | inl e ↦ subst (λ (x : ℕ). Over (S .events) (queueAt (set s i (l, Q)) x)) (sym e) (subst (λ (x : ℕ × List ℕ). Over (S .events) (x .1)) (sym (getD-set-same s i (l, Q) (0, []) (omega (arith, is .entries)))) o)
+      | inr ne ↦ subst (λ (x : ℕ × List ℕ). Over (S .events) (x .1)) (sym (getD-set-other s i j (l, Q) (0, []) ne)) (is .queues j hj)
+    ];
+  }
 
   pub start-is : WellFormed S → IsState S (start S)
   start-is w = record {
-        entries = length-replicate (machines S) (0, []);
-        locals = λ j hj. subst (λ (x : ℕ × List ℕ). x .0 < statesOf S j) (sym (getD-replicate (machines S) j (0, []) (0, []) hj)) (omega (arith, w .some-states j hj));
-        queues = λ j hj. subst (λ (x : ℕ × List ℕ). Over (S .events) (x .1)) (sym (getD-replicate (machines S) j (0, []) (0, []) hj)) tt }
+    entries = length-replicate (machines S) (0, []);
+    locals = λ j hj. subst (λ (x : ℕ × List ℕ). x .0 < statesOf S j) (sym (getD-replicate (machines S) j (0, []) (0, []) hj)) (omega (arith, w .some-states j hj));
+    queues = λ j hj. subst (λ (x : ℕ × List ℕ). Over (S .events) (x .1)) (sym (getD-replicate (machines S) j (0, []) (0, []) hj)) tt;
+  }
 
   acts-is : (x : Rule) (s t : State) → IsState S s → RuleFits S x → (a : Action) → ActionFits S a → Acts a x s t → IsState S t
   acts-is x s t is f Local n h = subst (IsState S) (sym h) (is-set s (x .machine) (x .to) _ is (f .machine) (f .to) (is .queues (x .machine) (f .machine)))

@@ -7,7 +7,6 @@ use Rattle.std.specs.declared.result.Result.the-variants.{Ok, Err}
 use Rattle.model.specs.declared.fault.Fault.{Fault}
 
 infixr 10 _then_
-
 -- one finding; all of one order, then all of another; or those of g 0, g 1, .., up to n of them
 pub data Order (F : Type 0) : Type 0 where
   one : F → Order F

@@ -3,3 +3,5 @@ pub mod Header
 pub mod Layout
 pub mod Lines
 pub mod SystemOf
+pub mod Findings
+pub mod Reading

@@ -21,8 +21,11 @@ actionOf k e d = cond (eqb k 0) Local (cond (eqb k 1) (Take e) (Send e d))
 -- six bytes: kind, machine, from, to, event, target
 abbrev pub ruleAt : List ℕ → ℕ → Rule
 ruleAt bs o = record {
-    machine = byteAt bs (o + 1); from = byteAt bs (o + 2); to = byteAt bs (o + 3);
-    action = actionOf (byteAt bs o) (byteAt bs (o + 4)) (byteAt bs (o + 5)) }
+  machine = byteAt bs (o + 1);
+  from = byteAt bs (o + 2);
+  to = byteAt bs (o + 3);
+  action = actionOf (byteAt bs o) (byteAt bs (o + 4)) (byteAt bs (o + 5));
+}
 
 -- 255: any local state
 abbrev pub localOf : ℕ → Option ℕ
@@ -35,7 +38,11 @@ frontOf f = cond (eqb f 255) Any (cond (eqb f 254) Empty (Event f))
 -- after the pattern's number: machine, local state, front, mask
 abbrev pub conditionAt : List ℕ → ℕ → Condition
 conditionAt bs o = record {
-    machine = byteAt bs (o + 1); local = localOf (byteAt bs (o + 2)); front = frontOf (byteAt bs (o + 3)); mask = byteAt bs (o + 4) }
+  machine = byteAt bs (o + 1);
+  local = localOf (byteAt bs (o + 2));
+  front = frontOf (byteAt bs (o + 3));
+  mask = byteAt bs (o + 4);
+}
 
 abbrev pub patternLineAt : List ℕ → ℕ → PatternLine
 patternLineAt bs o = record { number = byteAt bs o; condition = conditionAt bs o }

@@ -29,7 +29,8 @@ conditionsOf bs p = map (λ l. conditionAt bs (patternOffset bs l)) (kept-by (λ
 
 abbrev pub systemOf : List ℕ → System
 systemOf bs = record {
-    events = eventsN bs;
-    states = map (λ i. byteAt bs (machineOffset i)) (counting 0 (machinesN bs));
-    rules = map (λ r. ruleAt bs (ruleOffset bs r)) (counting 0 (rulesN bs));
-    patterns = map (conditionsOf bs) (counting 0 (patternCount bs)) }
+  events = eventsN bs;
+  states = map (λ i. byteAt bs (machineOffset i)) (counting 0 (machinesN bs));
+  rules = map (λ r. ruleAt bs (ruleOffset bs r)) (counting 0 (rulesN bs));
+  patterns = map (conditionsOf bs) (counting 0 (patternCount bs));
+}

@@ -4,19 +4,24 @@ ghost use Prim.Native.Nat.{ℕ, _*_, _<_};
 ghost use Rattle.std.specs.Orderings.{Decides};
 ghost use Rattle.model.specs.Order.{Answered};
 ghost use Rattle.table.specs.Header.{OutOfBounds, faultAt, fields};
-
 use crate::bytes::word;
 use model::fault::Fault;
 use model::fault::Refusal;
 
 pub const HEADER_LENGTH: usize = 16;
+
 pub const FIELDS: usize = 8;
 
 // A fault at a place in a file.
 pub fn fault_at(number: Refusal, place: u32) -> Fault
     ensures { λ r. ⌜ r ≡ faultAt number place ⌝ }
 {
-    Fault { number, a: place, b: 0, c: 0 }
+    Fault {
+        number,
+        a: place,
+        b: 0,
+        c: 0,
+    }
 }
 
 // Whether a field lies outside its bounds.

@@ -1,7 +1,6 @@
 // The lines of a table.
 ghost use mathlib.Core.Path.{_≡_};
 ghost use Rattle.table.specs.Lines.{ruleAt, frontOf, localOf, patternLineAt, actionOf};
-
 use crate::bytes::byte;
 use crate::layout::ANY;
 use crate::layout::EMPTY_FRONT;

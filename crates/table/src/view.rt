@@ -7,7 +7,6 @@ ghost use Rattle.model.specs.System.{machines};
 ghost use Rattle.table.specs.Bytes.{byteAt};
 ghost use Rattle.table.specs.Layout.{machineOffset, ruleOffset, patternOffset};
 ghost use Rattle.table.specs.SystemOf.{systemOf, patternLinesOf};
-
 use crate::bytes::byte;
 use crate::bytes::word;
 use crate::header::HEADER_LENGTH;
