@@ -3,6 +3,7 @@ pub mod System
 pub mod State
 pub mod Steps
 pub mod Bad
+pub mod Numbers
 pub mod Order
 pub mod Laid
 pub mod Laws

@@ -1,4 +1,8 @@
 // Why a call was refused: the number of the refusal, and three values that say where.
+ghost use mathlib.Core.Path.{_≡_};
+ghost use Rattle.std.specs.declared.option.Option.the-variants.{Some};
+ghost use Rattle.model.specs.Numbers.{numberOf, line};
+use std::fmt;
 
 #[derive(Clone, Copy)]
 pub enum Refusal {
@@ -28,4 +32,27 @@ pub struct Fault {
     pub a: u32,
     pub b: u16,
     pub c: u64,
+}
+
+
+impl Refusal {
+    // The number that the refusal is known by.
+    pub fn number(self) -> u8
+        ensures { λ r. ⌜ r ≡ numberOf self ⌝ }
+    {
+        self as u8
+    }
+}
+
+// `refused`, then the number of the refusal and its three values.
+pub impl fmt::Display for Fault as FaultDisplay {
+    ghost shown = { λ f. Some (line f) };
+
+    fn fmt<W: fmt::Write>(&self, f: &mut fmt::Formatter<W>) -> fmt::Result {
+        let number = self.number.number();
+        let a = self.a;
+        let b = self.b;
+        let c = self.c;
+        write!(f, "refused {number} {a} {b} {c}")
+    }
 }
