@@ -1,4 +1,4 @@
--- The laws of the layer that keeps the first event, from those of the picture below. Assumes nothing.
+-- The laws of the layer that keeps the first event, from those of the abstraction below. Assumes nothing.
 use mathlib.Core.Path.{_≡_, refl, sym, ap, _∙_, subst}
 use mathlib.Core.Bool.{Bool, true, false, cond, _&&_}
 use mathlib.Core.List.{List, [], _∷_, _++_, map}
@@ -20,7 +20,7 @@ use Rattle.model.specs.declared.queue.Front.{Front}
 use Rattle.model.specs.declared.queue.Front.the-variants.{Any, Empty, Event}
 use Rattle.abstraction.proofs.Nth.{nth-cond, nth-map, nth-map-back, nth-map-none, nth-before, nth-front, nth-behind, none-some, some-same}
 use Rattle.abstraction.proofs.Masks.{over-append, below-bits, covers-zero}
-use Rattle.keep_first.specs.Keep.{keep-bits, keep-code, keep-removals, keep-taken, begun, kept, Split}
+use Rattle.keep_first.specs.KeepFirst.{keep-bits, keep-code, keep-removals, keep-taken, begun, kept, Split}
 
 pub valid-below : {m : ℕ} (w : ℕ) → Valid m (keep-bits w) → Valid m w
 valid-below w v = record { some = v .some; few = v .few; narrow = omega arith }
@@ -246,14 +246,3 @@ module _ (w : ℕ) (code : ℕ → List ℕ → ℕ) (removals : ℕ → ℕ →
       ap (λ (x : List (ℕ × ℕ)). nth x k) (keep-at m c e b v l p)
       ∙ ap (nth (keep-taken code removals m e b)) q
       ∙ nth-behind (eqb (code m []) b) (e, 0) (map (kept e) (removals m b)) at
-
-  -- whether a code allows the empty queue
-  pub empty-allowed : (m b : ℕ) (r : Bool) → Valid m w → Decides r (Allowed w code m b Empty 0) → r ≡ eqb (code m []) b
-  empty-allowed m b r v d = same-from-decides r (eqb (code m []) b) d (λ t. yes′ (eqb-true (code m []) b t), λ a. eq-eqb (code m []) b (no′ (a .queue) (a .begins) (a .coded)))
-    where
-      yes′ : code m [] ≡ b → Allowed w code m b Empty 0
-      yes′ e = record { valid = v; queue = []; over = tt; coded = e; begins = tt; covers = covers-zero [] }
-
-      no′ : (Q : List ℕ) → Begins Empty Q → code m Q ≡ b → code m [] ≡ b
-      no′ [] b e = e
-      no′ (f ∷ Q) b e = absurd b

@@ -1,8 +1,7 @@
 use mathlib.Core.Path.{_≡_, sym, ap, subst}
-use Prim.Native.Nat.{ℕ, _-_, _*_, _%_, _^_, _<_}
+use Prim.Native.Nat.{ℕ, _-_}
 use native.Mathlib.Omega.{arith}
 use lib.Bits.{bitAnd}
-use Rattle.std.proofs.shelf.Bits.{one-shl}
 use Rattle.model.specs.Queue.{Bit}
 use Rattle.abstraction.proofs.Bitwise.{bit-out}
 use Rattle.keep_first.proofs.without.Needs as need
@@ -12,5 +11,5 @@ Out mask e r = (f : ℕ) → (Bit r f → (f ≡ e → ⊥) × Bit mask f) × (B
 
 pub returns : need.returns
 returns c =
-    subst (λ (x : ℕ). Out (c .args .mask) (c .args .e) (bitAnd (c .args .mask) (255 - x))) (sym (one-shl (c .args .e) 8 (c .pre)))
+    subst (λ (x : ℕ). Out (c .args .mask) (c .args .e) (bitAnd (c .args .mask) (255 - x))) (sym (c .bit .ensures .event (c .pre)))
     (λ f. bit-out (c .args .mask) (c .args .e) f (omega arith) (c .pre))

@@ -2,7 +2,7 @@ use mathlib.Core.Path.{_≡_, refl, sym, subst}
 use Prim.Native.Nat.{ℕ}
 use Rattle.std.proofs.shelf.Tests.{false≢true}
 use Rattle.abstraction.specs.Meaning.{Valid}
-use Rattle.keep_first.specs.Keep.{Split}
+use Rattle.keep_first.specs.KeepFirst.{Split}
 use Rattle.std.specs.declared.option.Option.the-variants.{None}
 use Rattle.keep_first.proofs.Kept.{good-up, good-down, good-parts}
 use Rattle.keep_first.proofs.KeepFirstMeaning.good.Needs as need

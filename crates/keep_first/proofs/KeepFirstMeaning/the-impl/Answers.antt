@@ -2,4 +2,4 @@ use Rattle.keep_first.proofs.Kept.{keep-meaning}
 use Rattle.keep_first.proofs.KeepFirstMeaning.the-impl.Needs as need
 
 pub meaning-law : need.meaning-law
-meaning-law g p = keep-meaning _ _ _ (g .P·QueueAbstraction·met .meaning (p .below))
+meaning-law g p = keep-meaning _ _ _ (g .A·QueueAbstraction·met .meaning (p .below))
