@@ -1,7 +1,7 @@
 -- First occurrences: lists of different events. Assumes nothing.
 use mathlib.Core.Path.{_≡_, refl, sym, ap, _∙_, subst}
 use mathlib.Core.Bool.{Bool, true, false, cond, _&&_, _||_, not}
-use mathlib.Core.List.{List, [], _∷_, _++_, map}
+use mathlib.Core.List.{List, [], _∷_, _++_, map, append-nil}
 use mathlib.Core.Logic.{_⊎_, inl, inr}
 use Prim.Native.Nat.{ℕ, zero, suc, _+_, _-_, _*_, _/_, _%_, _^_, _<_, _≤_}
 use native.Mathlib.Omega.{arith}
@@ -14,7 +14,7 @@ use Rattle.std.proofs.shelf.Tests.{cases-bool, cases-eq, eqb-true, eqb-false, e
 use Rattle.model.specs.Queue.{Over, Waits}
 use Rattle.abstraction.proofs.Nth.{none-some, some-same, nth-map, nth-map-back}
 use Rattle.abstraction.specs.Distinct.{Absent, Apart, Below, without}
-use Rattle.abstraction.proofs.Distinct.{without-same, without-other, without-absent, without-all, absent-without, apart-without}
+use Rattle.abstraction.proofs.Distinct.{without-same, without-other, without-absent, without-all, absent-without, apart-without, waits-present}
 use Rattle.list_abstraction.specs.List.{firsts, pack, unpack, has, listed, insertions}
 
 pub firsts-apart : (Q : List ℕ) → Apart (firsts Q)
@@ -72,6 +72,13 @@ pub absent-has : (e : ℕ) (L : List ℕ) → Absent e L → has e L ≡ false
 absent-has e [] a = refl
 absent-has e (f ∷ L) a = or-from (eqb e f) (has e L) (ne-eqb e f (λ q. a .0 (sym q))) (absent-has e L (a .1))
 
+pub has-waits : (e : ℕ) (L : List ℕ) → has e L ≡ true → Waits e L
+has-waits e [] h = absurd (false≢true h)
+has-waits e (f ∷ L) h = elim (or-cases (eqb e f) (has e L) h) [ inl p ↦ inl (eqb-true e f p) | inr p ↦ inr (has-waits e L p) ]
+
+pub waits-has : (e : ℕ) (L : List ℕ) → Waits e L → has e L ≡ true
+waits-has e L h = elim (cases-bool (has e L)) [ inl t ↦ t | inr t ↦ absurd (waits-present e L h (has-absent e L t)) ]
+
 pub listed-parts : (m : ℕ) (L : List ℕ) → listed m L ≡ true → Below m L × Apart L
 listed-parts m [] h = (tt, tt)
 listed-parts m (e ∷ L) h =
@@ -97,10 +104,6 @@ without-append e [] R = refl
 without-append e (f ∷ L) R = elim (cases-eq f e) [
       inl p ↦ without-same e f (L ++ R) p ∙ without-append e L R ∙ sym (ap (λ (X : List ℕ). X ++ without e R) (without-same e f L p))
       | inr p ↦ without-other e f (L ++ R) p ∙ ap (λ (X : List ℕ). f ∷ X) (without-append e L R) ∙ sym (ap (λ (X : List ℕ). X ++ without e R) (without-other e f L p)) ]
-
-append-nil : (L : List ℕ) → L ++ [] ≡ L
-append-nil [] = refl
-append-nil (e ∷ L) = ap (λ (X : List ℕ). e ∷ X) (append-nil L)
 
 abbrev pub added : ℕ → List ℕ → List ℕ
 added e L = cond (has e L) L (L ++ e ∷ [])

@@ -27,13 +27,13 @@ use Rattle.abstraction.proofs.Nth.{nth-map, nth-map-none}
 use Rattle.abstraction.proofs.Masks.{below-bits, covers-zero}
 use Rattle.abstraction.proofs.Bitwise.{bit-or, or-left, or-right, bits-ext}
 use Rattle.abstraction.specs.Distinct.{Absent, Below, without}
-use Rattle.abstraction.proofs.Distinct.{without-same, without-other, below-over, waits-present, absent-not, apart-push, few-below}
+use Rattle.abstraction.proofs.Distinct.{without-same, without-other, below-over, absent-not, apart-push, few-below}
 use Rattle.list_abstraction.specs.List.{firsts, pack, has, insertions, list-code, list-removals, removals-of}
 use Rattle.list_abstraction.specs.Read.{Coded, Marks, Seen}
-use Rattle.list_abstraction.proofs.Lists.{firsts-below, firsts-same, pack-same, pack-below, added, firsts-append, has-absent, absent-has, put-all, put-apart}
+use Rattle.list_abstraction.proofs.Lists.{firsts-below, firsts-same, pack-same, pack-below, added, firsts-append, absent-has, waits-has, put-all, put-apart}
 use Rattle.list_abstraction.proofs.Meaning.{coded-good, removals-at}
 
-pow-place : (n : ℕ) → 2 ^ (4 * suc n) ≡ 2 ^ (4 * n) * 16
+pub pow-place : (n : ℕ) → 2 ^ (4 * suc n) ≡ 2 ^ (4 * n) * 16
 pow-place n = let p : 4 * suc n ≡ 4 * n + 4 = omega arith in ap (λ (x : ℕ). 2 ^ x) p ∙ pow-add 2 (4 * n) 4
 
 pub pack-add : (L : List ℕ) (e : ℕ) → pack (L ++ e ∷ []) ≡ pack L + (e + 1) * 2 ^ (4 * length L)
@@ -98,11 +98,8 @@ module _ (m c : ℕ) (L : List ℕ) (k : Coded m c L) where
   pub append-held : (e : ℕ) → e < m → Waits e L → Appended 32 list-code m c e (Some c)
   append-held e l h = (coded-good m c L k, l, to)
     where
-      there : has e L ≡ true
-      there = elim (cases-bool (has e L)) [ inl t ↦ t | inr t ↦ absurd (waits-present e L h (has-absent e L t)) ]
-
       to : (Q : List ℕ) → Over m Q → list-code m Q ≡ c → list-code m (Q ++ e ∷ []) ≡ c
-      to Q o p = ap pack (firsts-append e Q ∙ ap (added e) (its-list Q o p) ∙ ap (λ (b : Bool). cond b L (L ++ e ∷ [])) there) ∙ k .packed
+      to Q o p = ap pack (firsts-append e Q ∙ ap (added e) (its-list Q o p) ∙ ap (λ (b : Bool). cond b L (L ++ e ∷ [])) (waits-has e L h)) ∙ k .packed
 
   pub append-new : (e : ℕ) → e < m → (Waits e L → ⊥) → Appended 32 list-code m c e (Some (c + (e + 1) * 2 ^ (4 * length L)))
   append-new e l n = (coded-good m c L k, l, to)
