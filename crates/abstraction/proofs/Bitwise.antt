@@ -20,8 +20,9 @@ each-below (suc n) p = p n && each-below n p
 pub at-below : (n : ℕ) (p : ℕ → Bool) → each-below n p ≡ true → (k : ℕ) → k < n → p k ≡ true
 at-below zero p t k h = absurd (omega arith)
 at-below (suc n) p t k h = elim (cases-eq k n) [
-      inl e ↦ subst (λ (x : ℕ). p x ≡ true) (sym e) (and-parts (p n) (each-below n p) t .0)
-      | inr e ↦ at-below n p (and-parts (p n) (each-below n p) t .1) k (omega arith) ]
+  | inl e ↦ subst (λ (x : ℕ). p x ≡ true) (sym e) (and-parts (p n) (each-below n p) t .0)
+  | inr e ↦ at-below n p (and-parts (p n) (each-below n p) t .1) k (omega arith)
+]
 
 -- the bit of a conjunction
 pub and-bit : (a b f : ℕ) → bitAnd a b / 2 ^ f % 2 ≡ bitAnd (a / 2 ^ f % 2) (b / 2 ^ f % 2)

@@ -30,8 +30,9 @@ without-all P e (f ∷ L) a = elim (eqb f e) as (λ b. All P (cond b (without e 
 pub absent-without : (e : ℕ) (L : List ℕ) → Absent e (without e L)
 absent-without e [] = tt
 absent-without e (f ∷ L) = elim (cases-eq f e) [
-      inl p ↦ subst (Absent e) (sym (without-same e f L p)) (absent-without e L)
-      | inr p ↦ subst (Absent e) (sym (without-other e f L p)) (p, absent-without e L) ]
+  | inl p ↦ subst (Absent e) (sym (without-same e f L p)) (absent-without e L)
+  | inr p ↦ subst (Absent e) (sym (without-other e f L p)) (p, absent-without e L)
+]
 
 pub apart-without : (e : ℕ) (L : List ℕ) → Apart L → Apart (without e L)
 apart-without e [] a = tt
@@ -75,15 +76,17 @@ apart-push (f ∷ L) e a n = (all-push (λ (y : ℕ). y ≡ f → ⊥) L e (a .0
 without-length : (n : ℕ) (L : List ℕ) → Apart L → length L ≤ suc (length (without n L))
 without-length n [] a = omega arith
 without-length n (f ∷ L) a = elim (cases-eq f n) [
-      inl p ↦ (let t : without n (f ∷ L) ≡ L = without-same n f L p ∙ without-absent n L (subst (λ (z : ℕ). Absent z L) p (a .0)) in
-        omega (arith, ap length t))
-      | inr p ↦ omega (arith, ap length (without-other n f L p), without-length n L (a .1)) ]
+  | inl p ↦ (let t : without n (f ∷ L) ≡ L = without-same n f L p ∙ without-absent n L (subst (λ (z : ℕ). Absent z L) p (a .0)) in
+      omega (arith, ap length t))
+  | inr p ↦ omega (arith, ap length (without-other n f L p), without-length n L (a .1))
+]
 
 without-below : (n : ℕ) (L : List ℕ) → Below (suc n) L → Below n (without n L)
 without-below n [] a = tt
 without-below n (f ∷ L) a = elim (cases-eq f n) [
-      inl p ↦ subst (Below n) (sym (without-same n f L p)) (without-below n L (a .1))
-      | inr p ↦ subst (Below n) (sym (without-other n f L p)) (omega (arith, a .0), without-below n L (a .1)) ]
+  | inl p ↦ subst (Below n) (sym (without-same n f L p)) (without-below n L (a .1))
+  | inr p ↦ subst (Below n) (sym (without-other n f L p)) (omega (arith, a .0), without-below n L (a .1))
+]
 
 -- different numbers below n are at most n
 pub few-below : (n : ℕ) (L : List ℕ) → Below n L → Apart L → length L ≤ n

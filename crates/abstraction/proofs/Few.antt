@@ -20,9 +20,10 @@ all-from-nth P (x ∷ xs) f = (f 0 x refl, all-from-nth P xs (λ k. f (suc k)))
 
 apart-from-nth : (xs : List ℕ) → ((k j x : ℕ) → nth xs k ≡ Some x → nth xs j ≡ Some x → k ≡ j) → Apart xs
 apart-from-nth [] f = tt
-apart-from-nth (x ∷ xs) f =
-    ( all-from-nth (λ (y : ℕ). y ≡ x → ⊥) xs (λ k y h e. absurd (omega (arith, f 0 (suc k) x refl (h ∙ ap Some e)))),
-      apart-from-nth xs (λ k j y h i. let s = f (suc k) (suc j) y h i in omega arith) )
+apart-from-nth (x ∷ xs) f = (
+  all-from-nth (λ (y : ℕ). y ≡ x → ⊥) xs (λ k y h e. absurd (omega (arith, f 0 (suc k) x refl (h ∙ ap Some e)))),
+  apart-from-nth xs (λ k j y h i. let s = f (suc k) (suc j) y h i in omega arith),
+)
 
 -- a pair as one number
 abbrev packed : ℕ × ℕ → ℕ

@@ -41,8 +41,9 @@ below-bits (suc n) m mask h f = below-bits n m mask less f
 
     less : mask < 2 ^ (m + n)
     less = elim (cases-lt 0 (mask / 2 ^ (m + n))) [
-      inl l ↦ (let o : mask / 2 ^ (m + n) ≡ 1 = omega (arith, high) in absurd (omega (arith, f (m + n) (ap (λ (x : ℕ). x % 2) o))))
-      | inr l ↦ quotient-zero mask (m + n) (omega arith) ]
+      | inl l ↦ (let o : mask / 2 ^ (m + n) ≡ 1 = omega (arith, high) in absurd (omega (arith, f (m + n) (ap (λ (x : ℕ). x % 2) o))))
+      | inr l ↦ quotient-zero mask (m + n) (omega arith)
+    ]
 
 -- the queue of the events a, a + 1, .. holds each of them
 pub counting-waits : (a n e : ℕ) → a ≤ e → e < a + n → Waits e (counting a n)

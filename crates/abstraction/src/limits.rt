@@ -3,6 +3,7 @@ ghost use Rattle.std.specs.Orderings.{Decides};
 ghost use Rattle.abstraction.specs.Meaning.{Valid};
 
 pub const MOST_EVENTS: u8 = 8;
+
 pub const WIDEST_CODE: u8 = 60;
 
 pub fn valid(m: u8, width: u8) -> bool

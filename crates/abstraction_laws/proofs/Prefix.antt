@@ -43,8 +43,9 @@ later-occurs p e f P (suc j, l, h, q) = (j, omega arith, omega arith, q)
 
 occurs-or-not : (p e : ℕ) (P : List ℕ) → Occurs p e P ⊎ (Occurs p e P → ⊥)
 occurs-or-not zero e P = elim (cases-bool (has e (firsts P))) [
-      inl t ↦ inl (waits-occurs e P (firsts-wait e P (has-waits e (firsts P) t)))
-      | inr t ↦ inr (λ o. waits-present e (firsts P) (wait-firsts e P (occurs-waits e P o)) (has-absent e (firsts P) t)) ]
+  | inl t ↦ inl (waits-occurs e P (firsts-wait e P (has-waits e (firsts P) t)))
+  | inr t ↦ inr (λ o. waits-present e (firsts P) (wait-firsts e P (occurs-waits e P o)) (has-absent e (firsts P) t))
+]
 occurs-or-not (suc p) e [] = inr (λ (j, l, h, q). omega arith)
 occurs-or-not (suc p) e (f ∷ P) = elim (occurs-or-not p e P) [ inl o ↦ inl (occurs-later p e f P o) | inr n ↦ inr (λ o. n (later-occurs p e f P o)) ]
 
@@ -69,8 +70,9 @@ abstracts-more p P (e ∷ R) a = subst (λ (Q : List ℕ). Abstracts p Q (prefix
   where
     next : Abstracts p (P ++ e ∷ []) (prefixed p (P ++ e ∷ []))
     next = elim (occurs-or-not p e P) [
-      inl o ↦ subst (Abstracts p (P ++ e ∷ [])) (sym (prefixed-drops p e P o)) (drops a o)
-      | inr n ↦ subst (Abstracts p (P ++ e ∷ [])) (sym (prefixed-keeps p e P n)) (keeps a n) ]
+      | inl o ↦ subst (Abstracts p (P ++ e ∷ [])) (sym (prefixed-drops p e P o)) (drops a o)
+      | inr n ↦ subst (Abstracts p (P ++ e ∷ [])) (sym (prefixed-keeps p e P n)) (keeps a n)
+    ]
 
 only-prefixed : (p : ℕ) (Q L : List ℕ) → Abstracts p Q L → L ≡ prefixed p Q
 only-prefixed p _ _ none = sym (prefixed-none p)

@@ -27,14 +27,16 @@ module _ (m c mask : ℕ) (v : Valid m 0) (z : 0 ≡ c) (low : mask < 256) where
   all h e b = counting-waits 0 m e (omega arith) (omega (arith, bit-below m mask e h b))
 
   pub any-answer : (r : Bool) → Decides r (mask < 2 ^ m) → Decides r (Free m c Any mask)
-  any-answer r d =
-      ( λ t. record { valid = v; queue = counting 0 m; over = counting-over m 0 m (omega arith); coded = z; begins = tt; covers = all (d .0 t) },
-        λ a. d .1 (covered (a .queue) (a .over) (a .covers)) )
+  any-answer r d = (
+    λ t. record { valid = v; queue = counting 0 m; over = counting-over m 0 m (omega arith); coded = z; begins = tt; covers = all (d .0 t) },
+    λ a. d .1 (covered (a .queue) (a .over) (a .covers)),
+  )
 
   pub event-answer : (e : ℕ) (r : Bool) → e < m → Decides r (mask < 2 ^ m) → Decides r (Free m c (Event e) mask)
-  event-answer e r l d =
-      ( λ t. record { valid = v; queue = e ∷ counting 0 m; over = (l, counting-over m 0 m (omega arith)); coded = z; begins = refl; covers = λ f b. inr (all (d .0 t) f b) },
-        λ a. d .1 (covered (a .queue) (a .over) (a .covers)) )
+  event-answer e r l d = (
+    λ t. record { valid = v; queue = e ∷ counting 0 m; over = (l, counting-over m 0 m (omega arith)); coded = z; begins = refl; covers = λ f b. inr (all (d .0 t) f b) },
+    λ a. d .1 (covered (a .queue) (a .over) (a .covers)),
+  )
 
   pub event-below : (e : ℕ) → Free m c (Event e) mask → e < m
   event-below e a = at (a .queue) (a .over) (a .begins)
@@ -44,9 +46,10 @@ module _ (m c mask : ℕ) (v : Valid m 0) (z : 0 ≡ c) (low : mask < 256) where
       at (f ∷ Q) o b = omega (arith, o .0, b)
 
   pub empty-answer : (r : Bool) → Decides r (mask ≡ 0) → Decides r (Free m c Empty mask)
-  empty-answer r d =
-      ( λ t. record { valid = v; queue = []; over = tt; coded = z; begins = tt; covers = subst (λ (x : ℕ). Covers x []) (sym (d .0 t)) (covers-zero []) },
-        λ a. d .1 (none (a .queue) (a .begins) (a .covers)) )
+  empty-answer r d = (
+    λ t. record { valid = v; queue = []; over = tt; coded = z; begins = tt; covers = subst (λ (x : ℕ). Covers x []) (sym (d .0 t)) (covers-zero []) },
+    λ a. d .1 (none (a .queue) (a .begins) (a .covers)),
+  )
     where
       none : (Q : List ℕ) → Begins Empty Q → Covers mask Q → mask ≡ 0
       none [] b h = let l : mask < 2 ^ 0 = below-bits 8 0 mask low (λ e x. absurd (h e x)) in omega arith

@@ -92,9 +92,9 @@ module _ (w : ℕ) (code : ℕ → List ℕ → ℕ) where
   allow-parts m c mask front z s a = good-parts m c z s (record { valid = a .valid; queue = a .queue; over = a .over; coded = a .coded })
 
   pub allow-up : (m c e b mask rest : ℕ) (front : Front) (r : Bool) → Valid m (keep-bits w) → e < m → c ≡ 16 * b + e + 1
-    → ((f : ℕ) → (Bit rest f → (f ≡ e → ⊥) × Bit mask f) × (Bit mask f → (f ≡ e → ⊥) → Bit rest f))
-    → ((Q : List ℕ) → Begins front (e ∷ Q))
-    → Decides r (Allowed w code m b Any rest) → Decides r (Allowed (keep-bits w) (keep-code code) m c front mask)
+      → ((f : ℕ) → (Bit rest f → (f ≡ e → ⊥) × Bit mask f) × (Bit mask f → (f ≡ e → ⊥) → Bit rest f))
+      → ((Q : List ℕ) → Begins front (e ∷ Q))
+      → Decides r (Allowed w code m b Any rest) → Decides r (Allowed (keep-bits w) (keep-code code) m c front mask)
   allow-up m c e b mask rest front r v l p cut begin d = (λ t. up (d .0 t), λ a. d .1 (down a))
     where
       up : Allowed w code m b Any rest → Allowed (keep-bits w) (keep-code code) m c front mask
@@ -144,8 +144,9 @@ module _ (w : ℕ) (code : ℕ → List ℕ → ℕ) (removals : ℕ → ℕ →
   keep-removed m c k e d h =
       let (f, b, v, l, p, n) = keep-begun m c k (e, d) h in
       elim (nth-before (eqb (code m []) b) (f, 0) (map (kept f) (removals m b)) k (e, d) n) [
-        inl (t, _, q) ↦ first f b v l p (eqb-true (code m []) b t) q
-        | inr (j, i, _) ↦ later f b v l p j i ]
+        | inl (t, _, q) ↦ first f b v l p (eqb-true (code m []) b t) q
+        | inr (j, i, _) ↦ later f b v l p j i
+      ]
     where
       first : (f b : ℕ) → Valid m (keep-bits w) → f < m → c ≡ 16 * b + f + 1 → code m [] ≡ b → _≡_ {A = ℕ × ℕ} (f, 0) (e, d) → Removal (keep-bits w) (keep-code code) m c e d
       first f b v l p t q =
@@ -172,20 +173,22 @@ module _ (w : ℕ) (code : ℕ → List ℕ → ℕ) (removals : ℕ → ℕ →
   keep-removes m c e d r = go (r .queue) (r .over) (r .after) (r .before)
     where
       go : (Q : List ℕ) → Over m Q → keep-code code m Q ≡ d → 16 * code m Q + e + 1 ≡ c → (k : ℕ) × (nth (keep-removals w code removals m c) k ≡ Some (e, d))
-      go [] o p q =
-          ( 0,
-            ap (λ (x : List (ℕ × ℕ)). nth x 0) (keep-at m c e (code m []) (r .valid) (r .event) (sym q))
+      go [] o p q = (
+        0,
+        ap (λ (x : List (ℕ × ℕ)). nth x 0) (keep-at m c e (code m []) (r .valid) (r .event) (sym q))
             ∙ nth-front (eqb (code m []) (code m [])) (e, 0) (map (kept e) (removals m (code m []))) (eq-eqb (code m []) (code m []) refl)
-            ∙ ap (λ (x : ℕ). Some (e, x)) p )
+            ∙ ap (λ (x : ℕ). Some (e, x)) p,
+      )
       go (f ∷ R) o p q =
           let b : ℕ = code m (f ∷ R) in
           let t : Bool = eqb (code m []) b in
-          let (j, n) = law .removes m b f (code m R) (record { valid = valid-below w (r .valid); event = o .0; queue = R; over = o .1; after = refl; before = refl }) in
-          ( cond t (suc j) j,
+          let (j, n) = law .removes m b f (code m R) (record { valid = valid-below w (r .valid); event = o .0; queue = R; over = o .1; after = refl; before = refl }) in (
+            cond t (suc j) j,
             ap (λ (x : List (ℕ × ℕ)). nth x (cond t (suc j) j)) (keep-at m c e b (r .valid) (r .event) (sym q))
-            ∙ nth-behind t (e, 0) (map (kept e) (removals m b)) j
-            ∙ nth-map (kept e) (removals m b) j (f, code m R) n
-            ∙ ap (λ (x : ℕ). Some (e, x)) p )
+                ∙ nth-behind t (e, 0) (map (kept e) (removals m b)) j
+                ∙ nth-map (kept e) (removals m b) j (f, code m R) n
+                ∙ ap (λ (x : ℕ). Some (e, x)) p,
+          )
 
   pub keep-once : (m c k j : ℕ) (x : ℕ × ℕ) → nth (keep-removals w code removals m c) k ≡ Some x → nth (keep-removals w code removals m c) j ≡ Some x → k ≡ j
   keep-once m c k j x h i =
@@ -193,10 +196,12 @@ module _ (w : ℕ) (code : ℕ → List ℕ → ℕ) (removals : ℕ → ℕ →
       let n′ : nth (keep-taken code removals m e b) j ≡ Some x = ap (λ (y : List (ℕ × ℕ)). nth y j) (sym (keep-at m c e b v l p)) ∙ i in
       let at = nth-before (eqb (code m []) b) (e, 0) (map (kept e) (removals m b)) in
       elim (at k x n) [
-        inl (t, z, q) ↦ (elim (at j x n′) [ inl (_, z′, _) ↦ z ∙ sym z′ | inr (j′, n2, _) ↦ absurd (apart e b j′ q n2) ])
+        | inl (t, z, q) ↦ (elim (at j x n′) [ inl (_, z′, _) ↦ z ∙ sym z′ | inr (j′, n2, _) ↦ absurd (apart e b j′ q n2) ])
         | inr (k′, n1, z) ↦ (elim (at j x n′) [
-          inl (_, _, q) ↦ absurd (apart e b k′ q n1)
-          | inr (j′, n2, z′) ↦ z ∙ ap (λ (y : ℕ). cond (eqb (code m []) b) (suc y) y) (same e b (v .few) k′ j′ n1 n2) ∙ sym z′ ]) ]
+          | inl (_, _, q) ↦ absurd (apart e b k′ q n1)
+          | inr (j′, n2, z′) ↦ z ∙ ap (λ (y : ℕ). cond (eqb (code m []) b) (suc y) y) (same e b (v .few) k′ j′ n1 n2) ∙ sym z′
+        ])
+      ]
     where
       apart : (e b j : ℕ) → _≡_ {A = ℕ × ℕ} (e, 0) x → nth (map (kept e) (removals m b)) j ≡ Some x → ⊥
       apart e b j q n =

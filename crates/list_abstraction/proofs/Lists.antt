@@ -96,14 +96,16 @@ listed-from m (e ∷ L) b a =
 has-without : (e f : ℕ) (L : List ℕ) → (e ≡ f → ⊥) → has e (without f L) ≡ has e L
 has-without e f [] ne = refl
 has-without e f (g ∷ L) ne = elim (cases-eq g f) [
-      inl p ↦ ap (has e) (without-same f g L p) ∙ has-without e f L ne ∙ sym (ap (λ (b : Bool). b || has e L) (ne-eqb e g (λ q. ne (q ∙ p))))
-      | inr p ↦ ap (has e) (without-other f g L p) ∙ ap (λ (b : Bool). eqb e g || b) (has-without e f L ne) ]
+  | inl p ↦ ap (has e) (without-same f g L p) ∙ has-without e f L ne ∙ sym (ap (λ (b : Bool). b || has e L) (ne-eqb e g (λ q. ne (q ∙ p))))
+  | inr p ↦ ap (has e) (without-other f g L p) ∙ ap (λ (b : Bool). eqb e g || b) (has-without e f L ne)
+]
 
 without-append : (e : ℕ) (L R : List ℕ) → without e (L ++ R) ≡ without e L ++ without e R
 without-append e [] R = refl
 without-append e (f ∷ L) R = elim (cases-eq f e) [
-      inl p ↦ without-same e f (L ++ R) p ∙ without-append e L R ∙ sym (ap (λ (X : List ℕ). X ++ without e R) (without-same e f L p))
-      | inr p ↦ without-other e f (L ++ R) p ∙ ap (λ (X : List ℕ). f ∷ X) (without-append e L R) ∙ sym (ap (λ (X : List ℕ). X ++ without e R) (without-other e f L p)) ]
+  | inl p ↦ without-same e f (L ++ R) p ∙ without-append e L R ∙ sym (ap (λ (X : List ℕ). X ++ without e R) (without-same e f L p))
+  | inr p ↦ without-other e f (L ++ R) p ∙ ap (λ (X : List ℕ). f ∷ X) (without-append e L R) ∙ sym (ap (λ (X : List ℕ). X ++ without e R) (without-other e f L p))
+]
 
 abbrev pub added : ℕ → List ℕ → List ℕ
 added e L = cond (has e L) L (L ++ e ∷ [])
@@ -127,8 +129,9 @@ firsts-append e (f ∷ Q) = ap (λ (X : List ℕ). f ∷ without f X) (firsts-ap
 pub put-place : (e : ℕ) (F L : List ℕ) → Apart F → without e F ≡ L → (F ≡ L) ⊎ ((k : ℕ) × (nth (insertions e L) k ≡ Some F))
 put-place e [] L a p = inl p
 put-place e (f ∷ F) L a p = elim (cases-eq f e) [
-      inl q ↦ inr (front L (sym (without-absent e F (subst (λ (x : ℕ). Absent x F) q (a .0))) ∙ sym (without-same e f F q) ∙ p) q)
-      | inr q ↦ later (put-place e F (without e F) (a .1) refl) (sym (without-other e f F q) ∙ p) ]
+  | inl q ↦ inr (front L (sym (without-absent e F (subst (λ (x : ℕ). Absent x F) q (a .0))) ∙ sym (without-same e f F q) ∙ p) q)
+  | inr q ↦ later (put-place e F (without e F) (a .1) refl) (sym (without-other e f F q) ∙ p)
+]
   where
     front : (L : List ℕ) → F ≡ L → f ≡ e → (k : ℕ) × (nth (insertions e L) k ≡ Some (f ∷ F))
     front [] r q = (0, cc)

@@ -133,12 +133,12 @@ list-once m c k j x h i =
 pub list-meaning : Meaning 32 list-code list-removals
 list-meaning = record {
   small = λ m Q v o.
-    let n : length (firsts Q) ≤ 8 = omega (arith, few-below m (firsts Q) (firsts-below m Q o) (firsts-apart Q), v .few) in
-    pack-below m 8 (firsts Q) (v .few) (firsts-below m Q o) n;
+      let n : length (firsts Q) ≤ 8 = omega (arith, few-below m (firsts Q) (firsts-below m Q o) (firsts-apart Q), v .few) in
+      pack-below m 8 (firsts Q) (v .few) (firsts-below m Q o) n;
   start = λ m. refl;
   appends = λ m e Q R v l o u p.
-    let s : firsts Q ≡ firsts R = pack-same m (firsts Q) (firsts R) (v .few) (firsts-below m Q o) (firsts-below m R u) p in
-    ap pack (firsts-append e Q ∙ ap (added e) s ∙ sym (firsts-append e R));
+      let s : firsts Q ≡ firsts R = pack-same m (firsts Q) (firsts R) (v .few) (firsts-below m Q o) (firsts-below m R u) p in
+      ap pack (firsts-append e Q ∙ ap (added e) s ∙ sym (firsts-append e R));
   removed = list-removed;
   removes = list-removes;
   once = list-once;

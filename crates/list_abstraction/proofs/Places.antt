@@ -70,15 +70,17 @@ put-end e (f ∷ L) (suc j) l = nth-map-none (λ (R : List ℕ). f ∷ R) (inser
 without-waits : (e f : ℕ) (L : List ℕ) → Waits e (without f L) → Waits e L
 without-waits e f [] h = absurd h
 without-waits e f (g ∷ L) h = elim (cases-eq g f) [
-      inl p ↦ inr (without-waits e f L (subst (Waits e) (without-same f g L p) h))
-      | inr p ↦ (elim (subst (Waits e) (without-other f g L p) h) [ inl q ↦ inl q | inr q ↦ inr (without-waits e f L q) ]) ]
+  | inl p ↦ inr (without-waits e f L (subst (Waits e) (without-same f g L p) h))
+  | inr p ↦ (elim (subst (Waits e) (without-other f g L p) h) [ inl q ↦ inl q | inr q ↦ inr (without-waits e f L q) ])
+]
 
 waits-without : (e f : ℕ) (L : List ℕ) → (e ≡ f → ⊥) → Waits e L → Waits e (without f L)
 waits-without e f [] n h = absurd h
 waits-without e f (g ∷ L) n (inl q) = subst (Waits e) (sym (without-other f g L (λ p. n (q ∙ p)))) (inl q)
 waits-without e f (g ∷ L) n (inr h) = elim (cases-eq g f) [
-      inl p ↦ subst (Waits e) (sym (without-same f g L p)) (waits-without e f L n h)
-      | inr p ↦ subst (Waits e) (sym (without-other f g L p)) (inr (waits-without e f L n h)) ]
+  | inl p ↦ subst (Waits e) (sym (without-same f g L p)) (waits-without e f L n h)
+  | inr p ↦ subst (Waits e) (sym (without-other f g L p)) (inr (waits-without e f L n h))
+]
 
 pub firsts-wait : (e : ℕ) (Q : List ℕ) → Waits e (firsts Q) → Waits e Q
 firsts-wait e [] h = h

@@ -85,9 +85,10 @@ module _ (m c : ℕ) (v : Valid m 32) where
     apart = apart-push (f .front) e (f .apart) (λ h. n (f .marks e .1 h));
     read = onto-add e rest (f .front) ∙ f .read;
     low = or-lt 8 mask (2 ^ e) (f .low) (pow-below e 8 (omega (arith, v .few)));
-    marks = λ g.
-      ( λ b. append-waits g e (f .front) (elim (bit-or mask (2 ^ e) g b) [ inl i ↦ inl (f .marks g .0 i) | inr i ↦ inr (bit-pow e g i) ]),
-        λ h. elim (waits-append g e (f .front) h) [ inl i ↦ or-left mask (2 ^ e) g (f .marks g .1 i) | inr p ↦ or-right mask (2 ^ e) g (subst (Bit (2 ^ e)) (sym p) (pow-bit e)) ] );
+    marks = λ g. (
+      λ b. append-waits g e (f .front) (elim (bit-or mask (2 ^ e) g b) [ inl i ↦ inl (f .marks g .0 i) | inr i ↦ inr (bit-pow e g i) ]),
+      λ h. elim (waits-append g e (f .front) h) [ inl i ↦ or-left mask (2 ^ e) g (f .marks g .1 i) | inr p ↦ or-right mask (2 ^ e) g (subst (Bit (2 ^ e)) (sym p) (pow-bit e)) ],
+    );
     long = length-push (f .front) e ∙ ap (λ (x : ℕ). x + 1) (f .long);
   }
 

@@ -79,8 +79,9 @@ pub code-append : (m e : ℕ) (Q : List ℕ) → Over m Q → e < m → set-code
 code-append m e Q o l =
     bits-ext m (set-code m (Q ++ e ∷ [])) (bitOr (set-code m Q) (2 ^ e)) (code-below m (Q ++ e ∷ []) (over-append m e Q o l)) (or-lt m (set-code m Q) (2 ^ e) (code-below m Q o) (pow-below e m l))
     (λ f b. elim (waits-append f e Q (code-waits m f (Q ++ e ∷ []) b)) [
-      inl h ↦ or-left (set-code m Q) (2 ^ e) f (waits-code m f Q h)
-      | inr p ↦ or-right (set-code m Q) (2 ^ e) f (subst (Bit (2 ^ e)) (sym p) (pow-bit e)) ])
+      | inl h ↦ or-left (set-code m Q) (2 ^ e) f (waits-code m f Q h)
+      | inr p ↦ or-right (set-code m Q) (2 ^ e) f (subst (Bit (2 ^ e)) (sym p) (pow-bit e))
+    ])
     (λ f b. waits-code m f (Q ++ e ∷ []) (append-waits f e Q (elim (bit-or (set-code m Q) (2 ^ e) f b) [ inl h ↦ inl (code-waits m f Q h) | inr h ↦ inr (bit-pow e f h) ])))
 
 -- what is left with and without the event

@@ -49,44 +49,51 @@ pub from-back : (c e n k x d : ℕ) → nth (set-from c e n) k ≡ Some (x, d) �
 from-back c e zero k x d h = absurd (none-some _ h)
 from-back c e (suc n) k x d h =
     elim (two-back (e, absent c e) (e, c) (set-from c (e + 1) n) (present c e) k (x, d) h) [
-      inl (t, _, p) ↦ (let q = fst-same _ _ _ _ p in
-        (omega arith, omega arith, subst (Bit c) q (eqb-true (c / 2 ^ e % 2) 1 t), inl (sym (snd-same _ _ _ _ p) ∙ ap (absent c) q)))
+      | inl (t, _, p) ↦ (let q = fst-same _ _ _ _ p in
+          (omega arith, omega arith, subst (Bit c) q (eqb-true (c / 2 ^ e % 2) 1 t), inl (sym (snd-same _ _ _ _ p) ∙ ap (absent c) q)))
       | inr (inl (t, _, p)) ↦ (let q = fst-same _ _ _ _ p in
-        (omega arith, omega arith, subst (Bit c) q (eqb-true (c / 2 ^ e % 2) 1 t), inr (sym (snd-same _ _ _ _ p))))
-      | inr (inr (j, i, _)) ↦ (let r = from-back c (e + 1) n j x d i in (omega (arith, r .0), omega (arith, r .1), r .2, r .3)) ]
+          (omega arith, omega arith, subst (Bit c) q (eqb-true (c / 2 ^ e % 2) 1 t), inr (sym (snd-same _ _ _ _ p))))
+      | inr (inr (j, i, _)) ↦ (let r = from-back c (e + 1) n j x d i in (omega (arith, r .0), omega (arith, r .1), r .2, r .3))
+    ]
 
 -- where it stands
 pub from-absent : (c e n x : ℕ) → e ≤ x → x < e + n → Bit c x → (k : ℕ) × (nth (set-from c e n) k ≡ Some (x, absent c x))
 from-absent c e zero x l h b = absurd (omega arith)
 from-absent c e (suc n) x l h b = elim (cases-eq e x) [
-      inl p ↦ (0, two-first (e, absent c e) (e, c) (set-from c (e + 1) n) (present c e) (eq-eqb (c / 2 ^ e % 2) 1 (subst (Bit c) (sym p) b)) ∙ ap (λ (y : ℕ). Some (y, absent c y)) p)
-      | inr p ↦ (let (j, i) = from-absent c (e + 1) n x (omega arith) (omega arith) b in
-        (cond (present c e) (suc (suc j)) j, two-rest (e, absent c e) (e, c) (set-from c (e + 1) n) (present c e) j ∙ i)) ]
+  | inl p ↦ (0, two-first (e, absent c e) (e, c) (set-from c (e + 1) n) (present c e) (eq-eqb (c / 2 ^ e % 2) 1 (subst (Bit c) (sym p) b)) ∙ ap (λ (y : ℕ). Some (y, absent c y)) p)
+  | inr p ↦ (let (j, i) = from-absent c (e + 1) n x (omega arith) (omega arith) b in
+      (cond (present c e) (suc (suc j)) j, two-rest (e, absent c e) (e, c) (set-from c (e + 1) n) (present c e) j ∙ i))
+]
 
 pub from-same : (c e n x : ℕ) → e ≤ x → x < e + n → Bit c x → (k : ℕ) × (nth (set-from c e n) k ≡ Some (x, c))
 from-same c e zero x l h b = absurd (omega arith)
 from-same c e (suc n) x l h b = elim (cases-eq e x) [
-      inl p ↦ (1, two-second (e, absent c e) (e, c) (set-from c (e + 1) n) (present c e) (eq-eqb (c / 2 ^ e % 2) 1 (subst (Bit c) (sym p) b)) ∙ ap (λ (y : ℕ). Some (y, c)) p)
-      | inr p ↦ (let (j, i) = from-same c (e + 1) n x (omega arith) (omega arith) b in
-        (cond (present c e) (suc (suc j)) j, two-rest (e, absent c e) (e, c) (set-from c (e + 1) n) (present c e) j ∙ i)) ]
+  | inl p ↦ (1, two-second (e, absent c e) (e, c) (set-from c (e + 1) n) (present c e) (eq-eqb (c / 2 ^ e % 2) 1 (subst (Bit c) (sym p) b)) ∙ ap (λ (y : ℕ). Some (y, c)) p)
+  | inr p ↦ (let (j, i) = from-same c (e + 1) n x (omega arith) (omega arith) b in
+      (cond (present c e) (suc (suc j)) j, two-rest (e, absent c e) (e, c) (set-from c (e + 1) n) (present c e) j ∙ i))
+]
 
 -- no pair twice
 from-once : (m c : ℕ) → m ≤ 8 → c < 2 ^ m → (n e k j x d : ℕ) → e + n ≤ m → nth (set-from c e n) k ≡ Some (x, d) → nth (set-from c e n) j ≡ Some (x, d) → k ≡ j
 from-once m c few l zero e k j x d le h i = absurd (none-some _ h)
 from-once m c few l (suc n) e k j x d le h i =
     elim (at k h) [
-      inl (t, z, p) ↦ (elim (at j i) [
-        inl (_, y, _) ↦ z ∙ sym y
+      | inl (t, z, p) ↦ (elim (at j i) [
+        | inl (_, y, _) ↦ z ∙ sym y
         | inr (inl (_, _, q)) ↦ absurd (differ t (snd-same _ _ _ _ p ∙ sym (snd-same _ _ _ _ q)))
-        | inr (inr (j′, i′, _)) ↦ absurd (later j′ i′ (fst-same _ _ _ _ p)) ])
+        | inr (inr (j′, i′, _)) ↦ absurd (later j′ i′ (fst-same _ _ _ _ p))
+      ])
       | inr (inl (t, z, p)) ↦ (elim (at j i) [
-        inl (_, _, q) ↦ absurd (differ t (snd-same _ _ _ _ q ∙ sym (snd-same _ _ _ _ p)))
+        | inl (_, _, q) ↦ absurd (differ t (snd-same _ _ _ _ q ∙ sym (snd-same _ _ _ _ p)))
         | inr (inl (_, y, _)) ↦ z ∙ sym y
-        | inr (inr (j′, i′, _)) ↦ absurd (later j′ i′ (fst-same _ _ _ _ p)) ])
+        | inr (inr (j′, i′, _)) ↦ absurd (later j′ i′ (fst-same _ _ _ _ p))
+      ])
       | inr (inr (k′, h′, z)) ↦ (elim (at j i) [
-        inl (_, _, q) ↦ absurd (later k′ h′ (fst-same _ _ _ _ q))
+        | inl (_, _, q) ↦ absurd (later k′ h′ (fst-same _ _ _ _ q))
         | inr (inl (_, _, q)) ↦ absurd (later k′ h′ (fst-same _ _ _ _ q))
-        | inr (inr (j′, i′, y)) ↦ z ∙ ap (λ (v : ℕ). cond (present c e) (suc (suc v)) v) (from-once m c few l n (e + 1) k′ j′ x d (omega arith) h′ i′) ∙ sym y ]) ]
+        | inr (inr (j′, i′, y)) ↦ z ∙ ap (λ (v : ℕ). cond (present c e) (suc (suc v)) v) (from-once m c few l n (e + 1) k′ j′ x d (omega arith) h′ i′) ∙ sym y
+      ])
+    ]
   where
     at : (k : ℕ) → nth (set-from c e (suc n)) k ≡ Some (x, d) → ((present c e ≡ true) × (k ≡ 0) × (_≡_ {A = ℕ × ℕ} (e, absent c e) (x, d))) ⊎ (((present c e ≡ true) × (k ≡ 1) × (_≡_ {A = ℕ × ℕ} (e, c) (x, d))) ⊎ ((j : ℕ) × (nth (set-from c (e + 1) n) j ≡ Some (x, d)) × (k ≡ cond (present c e) (suc (suc j)) j)))
     at k h = two-back (e, absent c e) (e, c) (set-from c (e + 1) n) (present c e) k (x, d) h
@@ -104,8 +111,9 @@ set-removed m c k e d h =
     let (_, l, b, o) = from-back c 0 m k e d n in
     let le : e < m = omega arith in
     elim o [
-      inl p ↦ made v le (absent c e) (absent-below m c e (v .1) (v .2) le) (sym p) (with-absent m c e (v .1) (v .2) le b)
-      | inr p ↦ made v le c (v .2) (sym p) (with-same m c e (v .1) (v .2) le b) ]
+      | inl p ↦ made v le (absent c e) (absent-below m c e (v .1) (v .2) le) (sym p) (with-absent m c e (v .1) (v .2) le b)
+      | inr p ↦ made v le c (v .2) (sym p) (with-same m c e (v .1) (v .2) le b)
+    ]
   where
     made : (1 ≤ m) × (m ≤ 8) × (c < 2 ^ m) → e < m → (f : ℕ) → f < 2 ^ m → f ≡ d → bitOr (2 ^ e) f ≡ c → Removal 8 set-code m c e d
     made v le f l p q = record {
@@ -127,8 +135,9 @@ set-removes m c e d r =
     let b : Bit c e = subst (λ (x : ℕ). Bit x e) (r .before) (or-left (2 ^ e) (set-code m (r .queue)) e (pow-bit e)) in
     let le : e < m = r .event in
     elim (before-put m c e few l le (set-code m (r .queue)) k (r .before)) [
-      inl p ↦ (let (j, i) = from-absent c 0 m e (omega arith) (omega arith) b in (j, there t j ∙ i ∙ ap (λ (x : ℕ). Some (e, x)) (sym p ∙ r .after)))
-      | inr p ↦ (let (j, i) = from-same c 0 m e (omega arith) (omega arith) b in (j, there t j ∙ i ∙ ap (λ (x : ℕ). Some (e, x)) (sym p ∙ r .after))) ]
+      | inl p ↦ (let (j, i) = from-absent c 0 m e (omega arith) (omega arith) b in (j, there t j ∙ i ∙ ap (λ (x : ℕ). Some (e, x)) (sym p ∙ r .after)))
+      | inr p ↦ (let (j, i) = from-same c 0 m e (omega arith) (omega arith) b in (j, there t j ∙ i ∙ ap (λ (x : ℕ). Some (e, x)) (sym p ∙ r .after)))
+    ]
   where
     there : set-good m c ≡ true → (j : ℕ) → nth (set-removals m c) j ≡ nth (set-from c 0 m) j
     there t j = ap (λ (b : Bool). nth (cond b (set-from c 0 m) []) j) t

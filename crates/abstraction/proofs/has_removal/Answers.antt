@@ -40,15 +40,18 @@ loop-taken-less g c =
 pub loop-taken-again : need.loop-taken-again
 loop-taken-again g c =
     let xs = g .A·QueueAbstraction .removals (c .args .abstraction .now) (c .args .m) (c .args .c) in
-    let l = nth-within xs (c .loop-taken .k) _ (sym (c .in-Some .ensures tt)) in
-    (omega arith, below-more _ _ (c .loop-taken .inv .1) (λ i.
-      let o = other xs (c .loop-taken .k) _ _ _ _ (c .in-Some .ensures tt) i in
-      elim (c .else-taken-e .either) [ inl h ↦ h .1 (o .1) | inr h ↦ h (o .0) ]))
+    let l = nth-within xs (c .loop-taken .k) _ (sym (c .in-Some .ensures tt)) in (
+      omega arith,
+      below-more _ _ (c .loop-taken .inv .1) (λ i.
+          let o = other xs (c .loop-taken .k) _ _ _ _ (c .in-Some .ensures tt) i in
+          elim (c .else-taken-e .either) [ inl h ↦ h .1 (o .1) | inr h ↦ h (o .0) ]),
+    )
 
 pub returns : need.returns
 returns g c =
     let law = g .A·QueueAbstraction·met .meaning (c .args .abstraction .now) in
     let xs = g .A·QueueAbstraction .removals (c .args .abstraction .now) (c .args .m) (c .args .c) in
-    let l = past xs (c .loop-taken .k) (0, 0) (sym (c .in-rest .ensures tt)) in
-    ( λ t. absurd (false≢true t),
-      λ r. let (k, h) = law .removes _ _ _ _ r in absurd (c .loop-taken .inv .1 k (omega (arith, nth-within xs k _ h)) h) )
+    let l = past xs (c .loop-taken .k) (0, 0) (sym (c .in-rest .ensures tt)) in (
+      λ t. absurd (false≢true t),
+      λ r. let (k, h) = law .removes _ _ _ _ r in absurd (c .loop-taken .inv .1 k (omega (arith, nth-within xs k _ h)) h),
+    )

@@ -20,5 +20,5 @@ returns c = record {
   append-listed = append-held 3 0x321 (unpack 8 0x321) (test-coded 3 0x321 refl) 0 (omega arith) (inl refl);
   append-unlisted = append-new 3 0x32 (unpack 8 0x32) (test-coded 3 0x32 refl) 0 (omega arith) (⊎-elim (λ p. omega arith) (⊎-elim (λ p. omega arith) (λ h. h)));
   append-to-one-kept = append-up 32 list-code 3 1 0 0 0 1 (record { some = omega arith; few = omega arith; narrow = omega arith }) (omega arith) (omega arith)
-    (append-new 3 0 (unpack 8 0) (test-coded 3 0 refl) 0 (omega arith) (λ h. h));
+      (append-new 3 0 (unpack 8 0) (test-coded 3 0 refl) 0 (omega arith) (λ h. h));
 }

@@ -23,5 +23,6 @@ returns-then-k-from c =
 
 pub returns-else-good : need.returns-else-good
 returns-else-good c = nothing _ (λ (e, d) h. elim (c .else-good .came) [
-      else-good·by·then-good·else-k-from w ↦ omega (arith, removal-event (c .args .m) (c .args .c) (c .args .k) e d h)
-      | else-good·by·else-good w ↦ not-from-decides _ (c .good-2 .ensures) (w .if-good .left) (removal-good (c .args .m) (c .args .c) (c .args .k) e d h) ])
+  | else-good·by·then-good·else-k-from w ↦ omega (arith, removal-event (c .args .m) (c .args .c) (c .args .k) e d h)
+  | else-good·by·else-good w ↦ not-from-decides _ (c .good-2 .ensures) (w .if-good .left) (removal-good (c .args .m) (c .args .c) (c .args .k) e d h)
+])

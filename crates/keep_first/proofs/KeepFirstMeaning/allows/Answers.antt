@@ -33,9 +33,10 @@ returns-then-begins g c =
     let s = c .in-Some .ensures tt in
     let v : Valid (c .args .m) (keep-bits w) = subst (Valid (c .args .m)) (c .width-2 .ensures) (s .0) in
     let begin : (Q : List ℕ) → Begins (c .args .front) (c .in-Some .first ∷ Q) = λ Q. elim (c .match-front-2 .came) [
-          in-Any w ↦ subst (λ (x : Front). Begins x (c .in-Some .first ∷ Q)) (sym (w .in-Any .is)) tt
-          | in-Empty w ↦ absurd (false≢true (sym (w .begins-is) ∙ c .if-begins .taken))
-          | in-Event-front w ↦ subst (λ (x : Front). Begins x (c .in-Some .first ∷ Q)) (sym (w .in-Event-front .is)) (sym (eqb-true _ _ (sym (w .begins-is) ∙ c .if-begins .taken))) ] in
+      | in-Any w ↦ subst (λ (x : Front). Begins x (c .in-Some .first ∷ Q)) (sym (w .in-Any .is)) tt
+      | in-Empty w ↦ absurd (false≢true (sym (w .begins-is) ∙ c .if-begins .taken))
+      | in-Event-front w ↦ subst (λ (x : Front). Begins x (c .in-Some .first ∷ Q)) (sym (w .in-Event-front .is)) (sym (eqb-true _ _ (sym (w .begins-is) ∙ c .if-begins .taken)))
+    ] in
     allow-up w code (c .args .m) (c .args .c) _ _ (c .args .mask) _ (c .args .front) _ v (s .1) (s .2) (c .without .ensures) begin (c .allows .ensures)
 
 pub returns-in-None : need.returns-in-None

@@ -34,7 +34,7 @@ join-requires-2 g c κs =
     (omega (arith, v .few, s .1), narrow-below w _ v (append-small w (g .A·QueueAbstraction .code p) (g .A·QueueAbstraction·met .meaning p) _ _ _ _ (c .in-Continue-append .ensures tt)))
 
 pub returns : need.returns
-returns g c = 
+returns g c =
     let p = c .args .self .now .below in
     let w = g .A·QueueAbstraction .bits p in
     let code = g .A·QueueAbstraction .code p in

@@ -31,11 +31,12 @@ returns-in-Break-next g c =
     let v : Valid (c .args .m) (keep-bits (q .bits p)) = subst (Valid (c .args .m)) (c .width .ensures) (s .0) in
     let t : c .empty .result ≡ q .code p (c .args .m) [] = c .empty .ensures ∙ sym (law .start (c .args .m)) in
     let k : c .args .k ≡ cond (eqb (q .code p (c .args .m) []) (c .in-Continue-first .rest)) (suc (c .if-rest-empty .below)) (c .if-rest-empty .below) = elim (c .if-rest-empty .came) [
-          then-rest-empty·else-k-eq0 w ↦ (let x : c .args .k ≡ suc (c .if-rest-empty .below) = omega (arith, w .if-k-eq0 .left, w .below-is) in x ∙ sym (cond-true _ _ _ (eq-eqb _ _ (sym t ∙ sym (w .if-rest-empty .taken)))))
-          | else-rest-empty w ↦ sym (w .below-is) ∙ sym (cond-false _ _ _ (ne-eqb _ _ (λ h. w .if-rest-empty .left (sym h ∙ sym t)))) ] in
+      | then-rest-empty·else-k-eq0 w ↦ (let x : c .args .k ≡ suc (c .if-rest-empty .below) = omega (arith, w .if-k-eq0 .left, w .below-is) in x ∙ sym (cond-true _ _ _ (eq-eqb _ _ (sym t ∙ sym (w .if-rest-empty .taken)))))
+      | else-rest-empty w ↦ sym (w .below-is) ∙ sym (cond-false _ _ _ (ne-eqb _ _ (λ h. w .if-rest-empty .left (sym h ∙ sym t))))
+    ] in
     c .from-residual-in-Break-next .ensures
     ∙ sym (keep-nth (q .bits p) (q .code p) (q .removals p) law _ _ _ _ (c .args .k) (c .if-rest-empty .below) v (s .1) (s .2) k
-      ∙ nth-map-none (kept (c .in-Continue-first .first)) (q .removals p (c .args .m) (c .in-Continue-first .rest)) (c .if-rest-empty .below) (sym (c .in-Break-next .ensures tt)))
+    ∙ nth-map-none (kept (c .in-Continue-first .first)) (q .removals p (c .args .m) (c .in-Continue-first .rest)) (c .if-rest-empty .below) (sym (c .in-Break-next .ensures tt)))
 
 pub join-requires : need.join-requires
 join-requires g c κs =
@@ -56,8 +57,9 @@ returns g c =
     let v : Valid (c .args .m) (keep-bits (q .bits p)) = subst (Valid (c .args .m)) (c .width .ensures) (s .0) in
     let t : c .empty .result ≡ q .code p (c .args .m) [] = c .empty .ensures ∙ sym (law .start (c .args .m)) in
     let k : c .args .k ≡ cond (eqb (q .code p (c .args .m) []) (c .in-Continue-first .rest)) (suc (c .if-rest-empty .below)) (c .if-rest-empty .below) = elim (c .if-rest-empty .came) [
-          then-rest-empty·else-k-eq0 w ↦ (let x : c .args .k ≡ suc (c .if-rest-empty .below) = omega (arith, w .if-k-eq0 .left, w .below-is) in x ∙ sym (cond-true _ _ _ (eq-eqb _ _ (sym t ∙ sym (w .if-rest-empty .taken)))))
-          | else-rest-empty w ↦ sym (w .below-is) ∙ sym (cond-false _ _ _ (ne-eqb _ _ (λ h. w .if-rest-empty .left (sym h ∙ sym t)))) ] in
+      | then-rest-empty·else-k-eq0 w ↦ (let x : c .args .k ≡ suc (c .if-rest-empty .below) = omega (arith, w .if-k-eq0 .left, w .below-is) in x ∙ sym (cond-true _ _ _ (eq-eqb _ _ (sym t ∙ sym (w .if-rest-empty .taken)))))
+      | else-rest-empty w ↦ sym (w .below-is) ∙ sym (cond-false _ _ _ (ne-eqb _ _ (λ h. w .if-rest-empty .left (sym h ∙ sym t))))
+    ] in
     ap (λ (x : ℕ). Some (c .in-Continue-first .first, x)) (c .join .ensures)
     ∙ sym (keep-nth (q .bits p) (q .code p) (q .removals p) law _ _ _ _ (c .args .k) (c .if-rest-empty .below) v (s .1) (s .2) k
-      ∙ nth-map (kept (c .in-Continue-first .first)) (q .removals p (c .args .m) (c .in-Continue-first .rest)) (c .if-rest-empty .below) (c .in-Continue-next .next, c .in-Continue-next .left) (sym (c .in-Continue-next .ensures tt)))
+    ∙ nth-map (kept (c .in-Continue-first .first)) (q .removals p (c .args .m) (c .in-Continue-first .rest)) (c .if-rest-empty .below) (c .in-Continue-next .next, c .in-Continue-next .left) (sym (c .in-Continue-next .ensures tt)))

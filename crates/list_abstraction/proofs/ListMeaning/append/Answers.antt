@@ -53,6 +53,6 @@ returns c =
     let m = c .args .m in
     let e = c .args .e in
     let p : (e + 1) * 2 ^ (4 * length (s .list)) ≡ (c .from .result + 1) * c .place .result =
-          ap (λ (x : ℕ). (e + 1) * 2 ^ (4 * x)) (s .count) ∙ ap (λ (x : ℕ). (e + 1) * x) (sym (c .place .ensures)) ∙ ap (λ (x : ℕ). (x + 1) * c .place .result) (sym (c .from .ensures)) in
+    ap (λ (x : ℕ). (e + 1) * 2 ^ (4 * x)) (s .count) ∙ ap (λ (x : ℕ). (e + 1) * x) (sym (c .place .ensures)) ∙ ap (λ (x : ℕ). (x + 1) * c .place .result) (sym (c .from .ensures)) in
     subst (λ (x : ℕ). Appended 32 list-code m (c .args .c) e (Some (c .args .c + x))) p
     (append-new m (c .args .c) (s .list) (s .coded) e (c .if-e-m .left) (new _ _ _ _ _ _ s (c .bit .ensures .event (omega (arith, s .coded .valid .few, c .if-e-m .left))) (c .if-e-m .left) (c .if-listed-bit .left)))

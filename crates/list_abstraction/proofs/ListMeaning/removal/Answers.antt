@@ -59,7 +59,7 @@ pub returns-then-k-eq0 : need.returns-then-k-eq0
 returns-then-k-eq0 c =
     let p = parts _ _ _ _ (c .in-Continue-listed .ensures tt) (c .if-c-eq0 .left) in
     sym (at (c .args .m) (c .args .c) _ (c .args .k) p ∙ ap (nth (removals-of (p .first ∷ p .rest))) (c .if-k-eq0 .taken)
-      ∙ ap (λ (x : ℕ). Some (x, pack (p .rest))) (sym (p .first-is)) ∙ ap (λ (x : ℕ). Some (c .args .c % 16 - 1, x)) (sym (p .rest-is)))
+    ∙ ap (λ (x : ℕ). Some (x, pack (p .rest))) (sym (p .first-is)) ∙ ap (λ (x : ℕ). Some (c .args .c % 16 - 1, x)) (sym (p .rest-is)))
 
 pub returns-then-k-from : need.returns-then-k-from
 returns-then-k-from c =
@@ -67,7 +67,7 @@ returns-then-k-from c =
     let k : c .args .k ≡ suc (c .args .k - 1) = omega (arith, c .if-k-eq0 .left) in
     let l : length (p .rest) < c .args .k - 1 = omega (arith, c .if-k-from .taken, c .from .ensures, p .count-is) in
     sym (at (c .args .m) (c .args .c) _ (c .args .k) p ∙ ap (nth (removals-of (p .first ∷ p .rest))) k
-      ∙ nth-map-none (λ (R : List ℕ). (p .first, pack R)) (insertions (p .first) (p .rest)) (c .args .k - 1) (put-end (p .first) (p .rest) (c .args .k - 1) l))
+    ∙ nth-map-none (λ (R : List ℕ). (p .first, pack R)) (insertions (p .first) (p .rest)) (c .args .k - 1) (put-end (p .first) (p .rest) (c .args .k - 1) l))
 
 pub place-here-requires : need.place-here-requires
 place-here-requires c κs =
@@ -91,9 +91,9 @@ left m c count j wide here p l q h =
     let a = put-apart e R j F (apart .0) (apart .1) n in
     let s : length F ≤ 8 = omega (arith, few-below m F b a) in
     let w : pack F ≡ (16 * (c / 16 / here) + wide + 1) * here + c / 16 % here =
-          v ∙ ap (λ (x : ℕ). (16 * (pack R / x) + e + 1) * x + pack R % x) (sym h)
-          ∙ ap (λ (x : ℕ). (16 * (x / here) + e + 1) * here + x % here) (sym (p .rest-is))
-          ∙ ap (λ (x : ℕ). (16 * (c / 16 / here) + x + 1) * here + c / 16 % here) (sym (p .first-is) ∙ sym q) in
+    v ∙ ap (λ (x : ℕ). (16 * (pack R / x) + e + 1) * x + pack R % x) (sym h)
+    ∙ ap (λ (x : ℕ). (16 * (x / here) + e + 1) * here + x % here) (sym (p .rest-is))
+    ∙ ap (λ (x : ℕ). (16 * (c / 16 / here) + x + 1) * here + c / 16 % here) (sym (p .first-is) ∙ sym q) in
     record {
       value = subst (λ (x : ℕ). x < 2 ^ 32) w (pack-below m 8 F few b s);
       is = at m c count (suc j) p ∙ nth-map (λ (R : List ℕ). (e, pack R)) (insertions e R) j F n ∙ ap (λ (x : ℕ). Some (x, pack F)) (sym (p .first-is)) ∙ ap (λ (x : ℕ). Some (c % 16 - 1, x)) w;

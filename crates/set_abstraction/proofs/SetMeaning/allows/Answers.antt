@@ -47,6 +47,7 @@ pub returns-else-has : need.returns-else-has
 returns-else-has c =
     let g = c .if-not-good .ensures tt .0 refl in
     let e = c .in-Event .e in
-    subst (Answer (c .args .m) (c .args .c) (c .args .mask) _) (sym (c .in-Event .is))
-    ( λ t. absurd (false≢true (sym (c .if-has .left) ∙ t)),
-      λ a. absurd (eqb-false (c .args .c / 2 ^ e % 2) 1 (sym (c .has .ensures) ∙ c .if-has .left) (event-needs (c .args .m) (c .args .c) (c .args .mask) (g .valid) (set-good-below (c .args .m) (c .args .c) g) (omega arith) e a)) )
+    subst (Answer (c .args .m) (c .args .c) (c .args .mask) _) (sym (c .in-Event .is)) (
+      λ t. absurd (false≢true (sym (c .if-has .left) ∙ t)),
+      λ a. absurd (eqb-false (c .args .c / 2 ^ e % 2) 1 (sym (c .has .ensures) ∙ c .if-has .left) (event-needs (c .args .m) (c .args .c) (c .args .mask) (g .valid) (set-good-below (c .args .m) (c .args .c) g) (omega arith) e a)),
+    )

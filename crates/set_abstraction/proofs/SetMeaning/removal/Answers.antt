@@ -39,9 +39,9 @@ returns-then-left-eq0 c =
     let e = c .loop-e .e in
     let rest = set-from x (e + 1) (c .args .m - (e + 1)) in
     sym (c .loop-e .inv ∙ step x e (c .args .m) (c .loop-e .left) (c .loop-e-test .taken)
-      ∙ ap (nth (cond (present x e) ((e, absent x e) ∷ (e, x) ∷ []) [] ++ rest)) (c .if-left-eq0 .taken)
-      ∙ two-first (e, absent x e) (e, x) rest (present x e) (sym (c .has .ensures) ∙ c .if-has .taken)
-      ∙ ap (λ (y : ℕ). Some (e, bitAnd x y)) (sym (c .from .ensures ∙ ap (λ (y : ℕ). 255 - y) (c .bit .ensures .event (omega (arith, c .if-not-good .ensures tt .0 refl .valid .few))))))
+    ∙ ap (nth (cond (present x e) ((e, absent x e) ∷ (e, x) ∷ []) [] ++ rest)) (c .if-left-eq0 .taken)
+    ∙ two-first (e, absent x e) (e, x) rest (present x e) (sym (c .has .ensures) ∙ c .if-has .taken)
+    ∙ ap (λ (y : ℕ). Some (e, bitAnd x y)) (sym (c .from .ensures ∙ ap (λ (y : ℕ). 255 - y) (c .bit .ensures .event (omega (arith, c .if-not-good .ensures tt .0 refl .valid .few))))))
 
 pub returns-then-left-eq1 : need.returns-then-left-eq1
 returns-then-left-eq1 c =
@@ -49,8 +49,8 @@ returns-then-left-eq1 c =
     let e = c .loop-e .e in
     let rest = set-from x (e + 1) (c .args .m - (e + 1)) in
     sym (c .loop-e .inv ∙ step x e (c .args .m) (c .loop-e .left) (c .loop-e-test .taken)
-      ∙ ap (nth (cond (present x e) ((e, absent x e) ∷ (e, x) ∷ []) [] ++ rest)) (c .if-left-eq1 .taken)
-      ∙ two-second (e, absent x e) (e, x) rest (present x e) (sym (c .has .ensures) ∙ c .if-has .taken))
+    ∙ ap (nth (cond (present x e) ((e, absent x e) ∷ (e, x) ∷ []) [] ++ rest)) (c .if-left-eq1 .taken)
+    ∙ two-second (e, absent x e) (e, x) rest (present x e) (sym (c .has .ensures) ∙ c .if-has .taken))
 
 pub loop-e-again : need.loop-e-again
 loop-e-again c =
@@ -58,8 +58,9 @@ loop-e-again c =
     let e = c .loop-e .e in
     let rest = set-from x (e + 1) (c .args .m - (e + 1)) in
     let k : c .loop-e .left ≡ cond (present x e) (suc (suc (c .if-has .left))) (c .if-has .left) = elim (c .if-has .came) [
-          then-has·else-left-eq0·else-left-eq1 w ↦ (let n : c .loop-e .left ≡ suc (suc (c .if-has .left)) = omega (arith, w .left-is, w .if-left-eq0 .left, w .if-left-eq1 .left) in n ∙ sym (cond-true _ _ _ (sym (c .has .ensures) ∙ w .if-has .taken)))
-          | else-has w ↦ sym (w .left-is) ∙ sym (cond-false _ _ _ (sym (c .has .ensures) ∙ w .if-has .left)) ] in
+      | then-has·else-left-eq0·else-left-eq1 w ↦ (let n : c .loop-e .left ≡ suc (suc (c .if-has .left)) = omega (arith, w .left-is, w .if-left-eq0 .left, w .if-left-eq1 .left) in n ∙ sym (cond-true _ _ _ (sym (c .has .ensures) ∙ w .if-has .taken)))
+      | else-has w ↦ sym (w .left-is) ∙ sym (cond-false _ _ _ (sym (c .has .ensures) ∙ w .if-has .left))
+    ] in
     c .loop-e .inv ∙ step x e (c .args .m) (c .loop-e .left) (c .loop-e-test .taken)
     ∙ ap (nth (cond (present x e) ((e, absent x e) ∷ (e, x) ∷ []) [] ++ rest)) k
     ∙ two-rest (e, absent x e) (e, x) rest (present x e) (c .if-has .left)
