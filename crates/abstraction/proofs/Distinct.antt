@@ -3,7 +3,7 @@ use mathlib.Core.Path.{_≡_, refl, sym, ap, _∙_, subst}
 use mathlib.Core.Bool.{Bool, true, false, cond}
 use mathlib.Core.List.{List, [], _∷_, _++_}
 use mathlib.Core.Logic.{_⊎_, inl, inr}
-use Prim.Native.Nat.{ℕ, zero, suc, _<_, _≤_}
+use Prim.Native.Nat.{ℕ, zero, suc, _≤_}
 use native.Mathlib.Omega.{arith}
 use lib.Dec.{eqb}
 use lib.ListN.{length}
@@ -37,10 +37,6 @@ absent-without e (f ∷ L) = elim (cases-eq f e) [
 pub apart-without : (e : ℕ) (L : List ℕ) → Apart L → Apart (without e L)
 apart-without e [] a = tt
 apart-without e (f ∷ L) a = elim (eqb f e) as (λ b. Apart (cond b (without e L) (f ∷ without e L))) [ true ↦ apart-without e L (a .1) | false ↦ (without-all (λ (y : ℕ). y ≡ f → ⊥) e L (a .0), apart-without e L (a .1)) ]
-
-pub over-below : (m : ℕ) (Q : List ℕ) → Over m Q → Below m Q
-over-below m [] o = tt
-over-below m (e ∷ Q) o = (o .0, over-below m Q (o .1))
 
 pub below-over : (m : ℕ) (Q : List ℕ) → Below m Q → Over m Q
 below-over m [] o = tt

@@ -1,5 +1,5 @@
 -- An abstraction has at most 2 ^ 63 removals of a code, since they are different pairs of bounded numbers. Assumes nothing.
-use mathlib.Core.Path.{_≡_, refl, sym, ap, _∙_, subst}
+use mathlib.Core.Path.{_≡_, refl, ap, _∙_, subst}
 use mathlib.Core.List.{List, [], _∷_, map}
 use Prim.Native.Nat.{ℕ, suc, _+_, _*_, _^_, _<_, _≤_}
 use native.Mathlib.Nat.{lt-of-lt-of-le}
@@ -11,7 +11,7 @@ use Rattle.std.specs.declared.option.Option.the-variants.{Some}
 use Rattle.std.specs.shelf.Lists.{All}
 use Rattle.abstraction.specs.Meaning.{Meaning}
 use Rattle.abstraction.specs.Distinct.{Apart, Below}
-use Rattle.abstraction.proofs.Nth.{nth-map-back}
+use Rattle.abstraction.proofs.Nth.{nth-map-back, pair-same}
 use Rattle.abstraction.proofs.Distinct.{few-below}
 
 all-from-nth : {X : Type 0} (P : X → Type 0) (xs : List X) → ((k : ℕ) (x : X) → nth xs k ≡ Some x → P x) → All P xs
@@ -28,9 +28,6 @@ apart-from-nth (x ∷ xs) f = (
 -- a pair as one number
 abbrev packed : ℕ × ℕ → ℕ
 packed x = 8 * (x .1) + x .0
-
-pair-same : (x y : ℕ × ℕ) → x .0 ≡ y .0 → x .1 ≡ y .1 → x ≡ y
-pair-same (a, b) (c, d) p q = cc
 
 module _ {w : ℕ} {code : ℕ → List ℕ → ℕ} {removals : ℕ → ℕ → List (ℕ × ℕ)} (law : Meaning w code removals) where
   pub few : (m c : ℕ) → length (removals m c) ≤ 2 ^ 63

@@ -3,3 +3,4 @@ pub mod Distinct
 pub mod Masks
 pub mod Bitwise
 pub mod Few
+pub mod Calls

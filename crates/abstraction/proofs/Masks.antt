@@ -1,9 +1,9 @@
 -- Masks and queues. Assumes nothing.
-use mathlib.Core.Path.{_≡_, refl, sym, ap, _∙_, subst}
-use mathlib.Core.List.{List, [], _∷_, _++_, map}
-use mathlib.Core.Logic.{_⊎_, inl, inr}
+use mathlib.Core.Path.{_≡_, ap, subst}
+use mathlib.Core.List.{List, [], _∷_, _++_}
+use mathlib.Core.Logic.{inl, inr}
 use Prim.Native.Nat.{ℕ, zero, suc, _<_, _≤_, _+_, _^_, _/_, _%_, _*_}
-use native.Mathlib.Nat.{div-eq-of-lt, lt-of-lt-of-le, add-zero, add-suc}
+use native.Mathlib.Nat.{div-eq-of-lt, lt-of-lt-of-le, add-zero}
 use native.Mathlib.Omega.{arith}
 use lib.Pow.{pow-mono}
 use Rattle.std.specs.Iters.{counting}

@@ -1,9 +1,9 @@
 -- The element at a place of a list. Assumes nothing.
-use mathlib.Core.Path.{_≡_, refl, sym, ap, _∙_, subst}
+use mathlib.Core.Path.{_≡_, refl, sym, ap, _∙_}
 use mathlib.Core.Bool.{Bool, true, false, cond}
 use mathlib.Core.List.{List, [], _∷_, _++_, map}
 use mathlib.Core.Logic.{_⊎_, inl, inr}
-use Prim.Native.Nat.{ℕ, zero, suc, _<_, _≤_, _+_}
+use Prim.Native.Nat.{ℕ, zero, suc, _<_, _≤_}
 use native.Mathlib.Omega.{arith}
 use lib.ListN.{length}
 use Rattle.std.specs.Finite.{nth}
@@ -12,13 +12,16 @@ use Rattle.std.specs.declared.option.Option.{Option}
 use Rattle.std.specs.declared.option.Option.the-variants.{Some, None}
 use Rattle.std.proofs.shelf.Maps.{nth-getD, nth-past}
 use Rattle.std.proofs.shelf.Counted.{getD-map-counting, length-map-counting}
-use Rattle.std.proofs.shelf.Tests.{cases-lt, cases-bool}
+use Rattle.std.proofs.shelf.Tests.{cases-lt}
 
 pub none-some : {X : Type 0} (x : X) → None ≡ Some x → ⊥
 none-some {X} x e = let z : _≡_ {A = ℕ} 0 1 = cc in omega arith
 
 pub some-same : {X : Type 0} (x y : X) → Some x ≡ Some y → x ≡ y
 some-same x y e = cc
+
+pub pair-same : (x y : ℕ × ℕ) → x .0 ≡ y .0 → x .1 ≡ y .1 → x ≡ y
+pair-same (a, b) (c, d) p q = cc
 
 pub nth-within : {X : Type 0} (xs : List X) (k : ℕ) (x : X) → nth xs k ≡ Some x → k < length xs
 nth-within xs k x e = elim (cases-lt k (length xs)) [ inl h ↦ h | inr h ↦ absurd (none-some x (sym (nth-past xs k h) ∙ e)) ]

@@ -1,18 +1,17 @@
 -- The first p events, then the first occurrences of the others: what p layers keep. Assumes nothing.
 use mathlib.Core.Path.{_≡_, refl, sym, ap, _∙_, subst}
-use mathlib.Core.Bool.{Bool, true, false, cond}
+use mathlib.Core.Bool.{Bool, cond}
 use mathlib.Core.List.{List, [], _∷_, _++_, append-assoc, append-nil}
 use mathlib.Core.Logic.{_⊎_, inl, inr}
-use Prim.Native.Nat.{ℕ, zero, suc, _+_, _*_, _<_, _≤_}
+use Prim.Native.Nat.{ℕ, zero, suc, _+_, _*_}
 use native.Mathlib.Omega.{arith}
-use lib.ListN.{length, getD}
 use Rattle.std.proofs.shelf.Tests.{cases-bool}
 use Rattle.model.specs.Queue.{Waits}
 use Rattle.abstraction.proofs.Distinct.{waits-present, absent-not}
 use Rattle.list_abstraction.specs.List.{firsts, pack, has}
 use Rattle.list_abstraction.proofs.Lists.{firsts-append, has-absent, absent-has, has-waits, waits-has}
 use Rattle.list_abstraction.proofs.Places.{firsts-wait, wait-firsts}
-use Rattle.abstraction_laws.specs.Prefix.{Occurs, Abstracts, none, drops, keeps, layered, Layered, Layers-keep-prefix}
+use Rattle.abstraction_laws.specs.Prefix.{Occurs, Abstracts, none, drops, keeps, layered, Layers-keep-prefix}
 
 prefixed : ℕ → List ℕ → List ℕ
 prefixed zero Q = firsts Q

@@ -1,18 +1,18 @@
 -- What the blank abstraction allows. Assumes nothing.
-use mathlib.Core.Path.{_≡_, refl, sym, ap, _∙_, subst}
-use mathlib.Core.Bool.{Bool, true}
+use mathlib.Core.Path.{_≡_, refl, sym, subst}
+use mathlib.Core.Bool.{Bool}
 use mathlib.Core.List.{List, [], _∷_}
-use mathlib.Core.Logic.{inl, inr}
-use Prim.Native.Nat.{ℕ, _<_, _≤_, _+_, _-_, _^_}
+use mathlib.Core.Logic.{inr}
+use Prim.Native.Nat.{ℕ, _<_, _+_, _-_, _^_}
 use native.Mathlib.Omega.{arith}
 use Rattle.std.specs.Iters.{counting}
 use Rattle.std.specs.Orderings.{Decides}
 use Rattle.model.specs.declared.queue.Front.{Front}
-use Rattle.model.specs.declared.queue.Front.the-variants.{Any, Empty, Event}
+use Rattle.model.specs.declared.queue.Front.the-variants.{Any, Event}
 use Rattle.model.specs.Queue.{Over, Covers, Begins}
 use Rattle.abstraction.specs.Meaning.{Valid, Allowed}
 use Rattle.blank_abstraction.specs.Blank.{blank-code}
-use Rattle.abstraction.proofs.Masks.{waits-below, bit-below, below-bits, counting-waits, counting-over, covers-zero}
+use Rattle.abstraction.proofs.Masks.{waits-below, bit-below, below-bits, counting-waits, counting-over}
 
 abbrev Free : ℕ → ℕ → Front → ℕ → Type 0
 Free m c front mask = Allowed 0 blank-code m c front mask
@@ -44,13 +44,3 @@ module _ (m c mask : ℕ) (v : Valid m 0) (z : 0 ≡ c) (low : mask < 256) where
       at : (Q : List ℕ) → Over m Q → Begins (Event e) Q → e < m
       at [] o b = absurd b
       at (f ∷ Q) o b = omega (arith, o .0, b)
-
-  pub empty-answer : (r : Bool) → Decides r (mask ≡ 0) → Decides r (Free m c Empty mask)
-  empty-answer r d = (
-    λ t. record { valid = v; queue = []; over = tt; coded = z; begins = tt; covers = subst (λ (x : ℕ). Covers x []) (sym (d .0 t)) (covers-zero []) },
-    λ a. d .1 (none (a .queue) (a .begins) (a .covers)),
-  )
-    where
-      none : (Q : List ℕ) → Begins Empty Q → Covers mask Q → mask ≡ 0
-      none [] b h = let l : mask < 2 ^ 0 = below-bits 8 0 mask low (λ e x. absurd (h e x)) in omega arith
-      none (e ∷ Q) b h = absurd b

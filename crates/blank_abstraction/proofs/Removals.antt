@@ -1,13 +1,13 @@
 -- The removals of the blank abstraction. Assumes nothing.
 use mathlib.Core.Path.{_≡_, refl, sym, ap, _∙_, subst}
-use mathlib.Core.Bool.{Bool, true, false, cond, _&&_}
-use mathlib.Core.List.{List, [], _∷_, map}
-use Prim.Native.Nat.{ℕ, _<_, _≤_, _+_}
+use mathlib.Core.Bool.{Bool, true, cond}
+use mathlib.Core.List.{[]}
+use Prim.Native.Nat.{ℕ, _<_, _≤_}
 use native.Mathlib.Omega.{arith}
 use Rattle.std.proofs.shelf.Ways.{tells}
 use Rattle.std.specs.Finite.{nth}
-use Rattle.std.specs.declared.option.Option.the-variants.{Some, None}
-use Rattle.abstraction.specs.Meaning.{Removal, Good}
+use Rattle.std.specs.declared.option.Option.the-variants.{Some}
+use Rattle.abstraction.specs.Meaning.{Removal, Meaning}
 use Rattle.abstraction.proofs.Nth.{nth-cond, nth-counted, nth-counted-back}
 use Rattle.blank_abstraction.specs.Blank.{blank-code, blank-good, each-event, blank-removals}
 
@@ -39,5 +39,12 @@ blank-once m c k j x h g =
 pub removal-event : (m c k e d : ℕ) → nth (blank-removals m c) k ≡ Some (e, d) → k < m
 removal-event m c k e d h = nth-counted-back (λ (e : ℕ). (e, 0)) m k (e, d) (nth-cond (blank-good m c) (each-event m) k (e, d) h .1) .0
 
-pub removal-good : (m c k e d : ℕ) → nth (blank-removals m c) k ≡ Some (e, d) → Good 0 blank-code m c
-removal-good m c k e d h = let r = blank-removed m c k e d h in record { valid = r .valid; queue = []; over = tt; coded = r .before }
+pub blank-meaning : Meaning 0 blank-code blank-removals
+blank-meaning = record {
+  small = λ m Q v o. omega arith;
+  start = λ m. refl;
+  appends = λ m e Q R v l o u h. refl;
+  removed = blank-removed;
+  removes = blank-removes;
+  once = blank-once;
+}

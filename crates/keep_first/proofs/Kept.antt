@@ -1,25 +1,25 @@
 -- The laws of the layer that keeps the first event, from those of the abstraction below. Assumes nothing.
 use mathlib.Core.Path.{_≡_, refl, sym, ap, _∙_, subst}
-use mathlib.Core.Bool.{Bool, true, false, cond, _&&_}
+use mathlib.Core.Bool.{Bool, true, cond}
 use mathlib.Core.List.{List, [], _∷_, _++_, map}
-use mathlib.Core.Logic.{_⊎_, inl, inr}
-use Prim.Native.Nat.{ℕ, zero, suc, _+_, _-_, _*_, _/_, _%_, _^_, _<_, _≤_, min}
+use mathlib.Core.Logic.{inl, inr}
+use Prim.Native.Nat.{ℕ, suc, _+_, _-_, _*_, _/_, _%_, _^_, _<_, _≤_}
 use native.Mathlib.Nat.{lt-of-lt-of-le}
 use native.Mathlib.Omega.{arith}
 use lib.Pow.{pow-mono, pow-add}
-use lib.Dec.{eqb, leb}
+use lib.Dec.{eqb}
 use Rattle.std.specs.Finite.{nth}
 use Rattle.std.specs.Orderings.{Decides}
-use Rattle.std.specs.declared.option.Option.{Option}
 use Rattle.std.specs.declared.option.Option.the-variants.{Some, None}
-use Rattle.std.proofs.shelf.Tests.{cases-bool, cases-eq, eqb-true, eq-eqb}
-use Rattle.std.proofs.shelf.Ways.{tells, same-from-decides}
-use Rattle.model.specs.Queue.{Over, Waits, Bit, Covers, Begins}
+use Rattle.std.proofs.shelf.Tests.{cases-eq, eqb-true, eq-eqb}
+use Rattle.std.proofs.shelf.Ways.{tells}
+use Rattle.model.specs.Queue.{Over, Bit, Covers, Begins}
 use Rattle.abstraction.specs.Meaning.{Valid, Good, Removal, Meaning, Allowed, Appended}
 use Rattle.model.specs.declared.queue.Front.{Front}
 use Rattle.model.specs.declared.queue.Front.the-variants.{Any, Empty, Event}
-use Rattle.abstraction.proofs.Nth.{nth-cond, nth-map, nth-map-back, nth-map-none, nth-before, nth-front, nth-behind, none-some, some-same}
-use Rattle.abstraction.proofs.Masks.{over-append, below-bits, covers-zero}
+use Rattle.abstraction.proofs.Nth.{nth-cond, nth-map, nth-map-back, nth-before, nth-front, nth-behind, pair-same}
+use Rattle.abstraction.proofs.Masks.{over-append, covers-zero}
+use Rattle.abstraction.proofs.Calls.{covers-none}
 use Rattle.keep_first.specs.KeepFirst.{keep-bits, keep-code, keep-removals, keep-taken, begun, kept, Split}
 
 pub valid-below : {m : ℕ} (w : ℕ) → Valid m (keep-bits w) → Valid m w
@@ -55,13 +55,6 @@ module _ (w : ℕ) (code : ℕ → List ℕ → ℕ) where
       let (f, R, _, k, o, q) = first-of m c (g .queue) z (g .over) (g .coded) in
       s f (code m R) (g .valid) k q
 
-  pub append-none : (m e : ℕ) → Valid m (keep-bits w) → e < m → Appended (keep-bits w) (keep-code code) m 0 e (Some (16 * code m [] + e + 1))
-  append-none m e v l = (good-none m v, l, to)
-    where
-      to : (Q : List ℕ) → Over m Q → keep-code code m Q ≡ 0 → keep-code code m (Q ++ e ∷ []) ≡ 16 * code m [] + e + 1
-      to [] o p = refl
-      to (f ∷ Q) o p = absurd (omega arith)
-
   pub append-up : (m c e f b d : ℕ) → Valid m (keep-bits w) → f < m → c ≡ 16 * b + f + 1 → Appended w code m b e (Some d) → Appended (keep-bits w) (keep-code code) m c e (Some (16 * d + f + 1))
   append-up m c e f b d v l p a = (good-up m c f b v l p (a .0), a .1, to)
     where
@@ -85,7 +78,7 @@ module _ (w : ℕ) (code : ℕ → List ℕ → ℕ) where
       begin (Event e) ne = ne e refl
 
       none : (Q : List ℕ) → keep-code code m Q ≡ 0 → Covers mask Q → mask ≡ 0
-      none [] p h = let l : mask < 2 ^ 0 = below-bits 8 0 mask low (λ e x. absurd (h e x)) in omega arith
+      none [] p h = covers-none mask low h
       none (e ∷ Q) p h = absurd (omega arith)
 
   pub allow-parts : (m c mask : ℕ) (front : Front) → (c ≡ 0 → ⊥) → Split (keep-bits w) m c None → Allowed (keep-bits w) (keep-code code) m c front mask → ⊥
@@ -120,9 +113,6 @@ module _ (w : ℕ) (code : ℕ → List ℕ → ℕ) where
             begins = tt;
             covers = λ g h. elim (held g (cut g .0 h .1)) [ inl t ↦ absurd (cut g .0 h .0 (t ∙ s .0)) | inr t ↦ t ];
           }
-
-pub pair-same : (x y : ℕ × ℕ) → x .0 ≡ y .0 → x .1 ≡ y .1 → x ≡ y
-pair-same (a, b) (c, d) p q = cc
 
 module _ (w : ℕ) (code : ℕ → List ℕ → ℕ) (removals : ℕ → ℕ → List (ℕ × ℕ)) (law : Meaning w code removals) where
   pub keep-at : (m c e b : ℕ) → Valid m (keep-bits w) → e < m → c ≡ 16 * b + e + 1 → keep-removals w code removals m c ≡ keep-taken code removals m e b

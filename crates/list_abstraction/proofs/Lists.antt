@@ -1,16 +1,16 @@
 -- First occurrences: lists of different events. Assumes nothing.
 use mathlib.Core.Path.{_≡_, refl, sym, ap, _∙_, subst}
 use mathlib.Core.Bool.{Bool, true, false, cond, _&&_, _||_, not}
-use mathlib.Core.List.{List, [], _∷_, _++_, map, append-nil}
+use mathlib.Core.List.{List, [], _∷_, _++_, append-nil}
 use mathlib.Core.Logic.{_⊎_, inl, inr}
 use Prim.Native.Nat.{ℕ, zero, suc, _+_, _-_, _*_, _/_, _%_, _^_, _<_, _≤_}
 use native.Mathlib.Omega.{arith}
-use lib.Dec.{eqb, leb, ltb}
+use lib.Dec.{eqb, ltb}
 use lib.ListN.{length}
 use Rattle.std.specs.Finite.{nth}
-use Rattle.std.specs.declared.option.Option.the-variants.{Some, None}
+use Rattle.std.specs.declared.option.Option.the-variants.{Some}
 use Rattle.std.specs.shelf.Lists.{All}
-use Rattle.std.proofs.shelf.Tests.{cases-bool, cases-eq, eqb-true, eqb-false, eq-eqb, ne-eqb, and-parts, and-from, lt-ltb, ltb-true, not-true, not-from-false, or-cases, or-parts, or-left, or-right, or-from, both-ways, false≢true}
+use Rattle.std.proofs.shelf.Tests.{cases-bool, cases-eq, eqb-true, eqb-false, eq-eqb, ne-eqb, and-parts, and-from, lt-ltb, ltb-true, not-true, not-from-false, or-cases, or-parts, or-right, or-from, false≢true}
 use Rattle.model.specs.Queue.{Over, Waits}
 use Rattle.abstraction.proofs.Nth.{none-some, some-same, nth-map, nth-map-back}
 use Rattle.abstraction.specs.Distinct.{Absent, Apart, Below, without}
@@ -126,11 +126,11 @@ firsts-append e (f ∷ Q) = ap (λ (X : List ℕ). f ∷ without f X) (firsts-ap
         ∙ sym (ap (λ (b : Bool). cond b (f ∷ without f (firsts Q)) (f ∷ without f (firsts Q) ++ e ∷ [])) (or-from (eqb e f) (has e (without f (firsts Q))) (ne-eqb e f p) (has-without e f (firsts Q) p ∙ h)))
 
 -- e∷Q has the list e∷L exactly when Q has L, or L with e at some place
-pub put-place : (e : ℕ) (F L : List ℕ) → Apart F → without e F ≡ L → (F ≡ L) ⊎ ((k : ℕ) × (nth (insertions e L) k ≡ Some F))
-put-place e [] L a p = inl p
-put-place e (f ∷ F) L a p = elim (cases-eq f e) [
+pub insertions-place : (e : ℕ) (F L : List ℕ) → Apart F → without e F ≡ L → (F ≡ L) ⊎ ((k : ℕ) × (nth (insertions e L) k ≡ Some F))
+insertions-place e [] L a p = inl p
+insertions-place e (f ∷ F) L a p = elim (cases-eq f e) [
   | inl q ↦ inr (front L (sym (without-absent e F (subst (λ (x : ℕ). Absent x F) q (a .0))) ∙ sym (without-same e f F q) ∙ p) q)
-  | inr q ↦ later (put-place e F (without e F) (a .1) refl) (sym (without-other e f F q) ∙ p)
+  | inr q ↦ later (insertions-place e F (without e F) (a .1) refl) (sym (without-other e f F q) ∙ p)
 ]
   where
     front : (L : List ℕ) → F ≡ L → f ≡ e → (k : ℕ) × (nth (insertions e L) k ≡ Some (f ∷ F))
@@ -141,37 +141,37 @@ put-place e (f ∷ F) L a p = elim (cases-eq f e) [
     later (inl r) s = inl (ap (λ (X : List ℕ). f ∷ X) r ∙ s)
     later (inr (k, h)) s = inr (suc k, ap (λ (X : List ℕ). nth (insertions e X) (suc k)) (sym s) ∙ nth-map (λ (R : List ℕ). f ∷ R) (insertions e (without e F)) k F h)
 
-pub put-without : (e : ℕ) (L : List ℕ) (k : ℕ) (F : List ℕ) → Absent e L → nth (insertions e L) k ≡ Some F → without e F ≡ L
-put-without e [] zero F a h = ap (without e) (sym (some-same (e ∷ []) F h)) ∙ without-same e e [] refl
-put-without e [] (suc k) F a h = absurd (none-some F h)
-put-without e (f ∷ L) zero F a h = ap (without e) (sym (some-same (e ∷ f ∷ L) F h)) ∙ without-same e e (f ∷ L) refl ∙ without-absent e (f ∷ L) a
-put-without e (f ∷ L) (suc k) F a h =
+pub insertions-without : (e : ℕ) (L : List ℕ) (k : ℕ) (F : List ℕ) → Absent e L → nth (insertions e L) k ≡ Some F → without e F ≡ L
+insertions-without e [] zero F a h = ap (without e) (sym (some-same (e ∷ []) F h)) ∙ without-same e e [] refl
+insertions-without e [] (suc k) F a h = absurd (none-some F h)
+insertions-without e (f ∷ L) zero F a h = ap (without e) (sym (some-same (e ∷ f ∷ L) F h)) ∙ without-same e e (f ∷ L) refl ∙ without-absent e (f ∷ L) a
+insertions-without e (f ∷ L) (suc k) F a h =
     let (R, n, q) = nth-map-back (λ (R : List ℕ). f ∷ R) (insertions e L) k F h in
-    ap (without e) (sym q) ∙ without-other e f R (a .0) ∙ ap (λ (X : List ℕ). f ∷ X) (put-without e L k R (a .1) n)
+    ap (without e) (sym q) ∙ without-other e f R (a .0) ∙ ap (λ (X : List ℕ). f ∷ X) (insertions-without e L k R (a .1) n)
 
-pub put-all : (P : ℕ → Type 0) (e : ℕ) (L : List ℕ) (k : ℕ) (F : List ℕ) → P e → All P L → nth (insertions e L) k ≡ Some F → All P F
-put-all P e [] zero F x a h = subst (All P) (some-same (e ∷ []) F h) (x, tt)
-put-all P e [] (suc k) F x a h = absurd (none-some F h)
-put-all P e (f ∷ L) zero F x a h = subst (All P) (some-same (e ∷ f ∷ L) F h) (x, a)
-put-all P e (f ∷ L) (suc k) F x a h =
+pub insertions-all : (P : ℕ → Type 0) (e : ℕ) (L : List ℕ) (k : ℕ) (F : List ℕ) → P e → All P L → nth (insertions e L) k ≡ Some F → All P F
+insertions-all P e [] zero F x a h = subst (All P) (some-same (e ∷ []) F h) (x, tt)
+insertions-all P e [] (suc k) F x a h = absurd (none-some F h)
+insertions-all P e (f ∷ L) zero F x a h = subst (All P) (some-same (e ∷ f ∷ L) F h) (x, a)
+insertions-all P e (f ∷ L) (suc k) F x a h =
     let (R, n, q) = nth-map-back (λ (R : List ℕ). f ∷ R) (insertions e L) k F h in
-    subst (All P) q (a .0, put-all P e L k R x (a .1) n)
+    subst (All P) q (a .0, insertions-all P e L k R x (a .1) n)
 
-pub put-apart : (e : ℕ) (L : List ℕ) (k : ℕ) (F : List ℕ) → Absent e L → Apart L → nth (insertions e L) k ≡ Some F → Apart F
-put-apart e [] zero F a d h = subst Apart (some-same (e ∷ []) F h) (tt, tt)
-put-apart e [] (suc k) F a d h = absurd (none-some F h)
-put-apart e (f ∷ L) zero F a d h = subst Apart (some-same (e ∷ f ∷ L) F h) (a, d)
-put-apart e (f ∷ L) (suc k) F a d h =
+pub insertions-apart : (e : ℕ) (L : List ℕ) (k : ℕ) (F : List ℕ) → Absent e L → Apart L → nth (insertions e L) k ≡ Some F → Apart F
+insertions-apart e [] zero F a d h = subst Apart (some-same (e ∷ []) F h) (tt, tt)
+insertions-apart e [] (suc k) F a d h = absurd (none-some F h)
+insertions-apart e (f ∷ L) zero F a d h = subst Apart (some-same (e ∷ f ∷ L) F h) (a, d)
+insertions-apart e (f ∷ L) (suc k) F a d h =
     let (R, n, q) = nth-map-back (λ (R : List ℕ). f ∷ R) (insertions e L) k F h in
-    subst Apart q (put-all (λ (y : ℕ). y ≡ f → ⊥) e L k R (λ p. a .0 (sym p)) (d .0) n, put-apart e L k R (a .1) (d .1) n)
+    subst Apart q (insertions-all (λ (y : ℕ). y ≡ f → ⊥) e L k R (λ p. a .0 (sym p)) (d .0) n, insertions-apart e L k R (a .1) (d .1) n)
 
-pub put-longer : (e : ℕ) (L : List ℕ) (k : ℕ) (F : List ℕ) → nth (insertions e L) k ≡ Some F → length F ≡ suc (length L)
-put-longer e [] zero F h = ap length (sym (some-same (e ∷ []) F h))
-put-longer e [] (suc k) F h = absurd (none-some F h)
-put-longer e (f ∷ L) zero F h = ap length (sym (some-same (e ∷ f ∷ L) F h))
-put-longer e (f ∷ L) (suc k) F h =
+pub insertions-longer : (e : ℕ) (L : List ℕ) (k : ℕ) (F : List ℕ) → nth (insertions e L) k ≡ Some F → length F ≡ suc (length L)
+insertions-longer e [] zero F h = ap length (sym (some-same (e ∷ []) F h))
+insertions-longer e [] (suc k) F h = absurd (none-some F h)
+insertions-longer e (f ∷ L) zero F h = ap length (sym (some-same (e ∷ f ∷ L) F h))
+insertions-longer e (f ∷ L) (suc k) F h =
     let (R, n, q) = nth-map-back (λ (R : List ℕ). f ∷ R) (insertions e L) k F h in
-    ap length (sym q) ∙ ap suc (put-longer e L k R n)
+    ap length (sym q) ∙ ap suc (insertions-longer e L k R n)
 
 tail-same : (e f : ℕ) (L R : List ℕ) → e ∷ L ≡ f ∷ R → L ≡ R
 tail-same e f L R p = cc
@@ -179,19 +179,19 @@ tail-same e f L R p = cc
 head-same : (e f : ℕ) (L R : List ℕ) → e ∷ L ≡ f ∷ R → e ≡ f
 head-same e f L R p = cc
 
-pub put-once : (e : ℕ) (L : List ℕ) (k j : ℕ) (F : List ℕ) → Absent e L → nth (insertions e L) k ≡ Some F → nth (insertions e L) j ≡ Some F → k ≡ j
-put-once e [] zero zero F a h i = refl
-put-once e [] zero (suc j) F a h i = absurd (none-some F i)
-put-once e [] (suc k) j F a h i = absurd (none-some F h)
-put-once e (f ∷ L) zero zero F a h i = refl
-put-once e (f ∷ L) zero (suc j) F a h i =
+pub insertions-once : (e : ℕ) (L : List ℕ) (k j : ℕ) (F : List ℕ) → Absent e L → nth (insertions e L) k ≡ Some F → nth (insertions e L) j ≡ Some F → k ≡ j
+insertions-once e [] zero zero F a h i = refl
+insertions-once e [] zero (suc j) F a h i = absurd (none-some F i)
+insertions-once e [] (suc k) j F a h i = absurd (none-some F h)
+insertions-once e (f ∷ L) zero zero F a h i = refl
+insertions-once e (f ∷ L) zero (suc j) F a h i =
     let (R, n, q) = nth-map-back (λ (R : List ℕ). f ∷ R) (insertions e L) j F i in
     absurd (a .0 (head-same f e R (f ∷ L) (q ∙ sym (some-same (e ∷ f ∷ L) F h))))
-put-once e (f ∷ L) (suc k) zero F a h i =
+insertions-once e (f ∷ L) (suc k) zero F a h i =
     let (R, n, q) = nth-map-back (λ (R : List ℕ). f ∷ R) (insertions e L) k F h in
     absurd (a .0 (head-same f e R (f ∷ L) (q ∙ sym (some-same (e ∷ f ∷ L) F i))))
-put-once e (f ∷ L) (suc k) (suc j) F a h i =
+insertions-once e (f ∷ L) (suc k) (suc j) F a h i =
     let (R, n, q) = nth-map-back (λ (R : List ℕ). f ∷ R) (insertions e L) k F h in
     let (S, o, r) = nth-map-back (λ (R : List ℕ). f ∷ R) (insertions e L) j F i in
     let s : R ≡ S = tail-same f f R S (q ∙ sym r) in
-    ap suc (put-once e L k j S (a .1) (n ∙ ap Some s) o)
+    ap suc (insertions-once e L k j S (a .1) (n ∙ ap Some s) o)

@@ -1,17 +1,14 @@
 -- The laws of the list abstraction. Assumes nothing.
 use mathlib.Core.Path.{_≡_, refl, sym, ap, _∙_, subst}
-use mathlib.Core.Bool.{Bool, true, false, cond, _&&_}
-use mathlib.Core.List.{List, [], _∷_, _++_, map}
+use mathlib.Core.Bool.{Bool, true, cond, _&&_}
+use mathlib.Core.List.{List, [], _∷_}
 use mathlib.Core.Logic.{_⊎_, inl, inr}
-use Prim.Native.Nat.{ℕ, zero, suc, _+_, _-_, _*_, _/_, _%_, _^_, _<_, _≤_}
+use Prim.Native.Nat.{ℕ, zero, suc, _<_, _≤_}
 use native.Mathlib.Omega.{arith}
-use native.Mathlib.Nat.{lt-of-lt-of-le}
-use lib.Dec.{eqb, leb, ltb}
+use lib.Dec.{eqb, leb}
 use lib.ListN.{length}
 use Rattle.std.specs.Finite.{nth}
-use Rattle.std.specs.Orderings.{Decides}
-use Rattle.std.specs.declared.option.Option.the-variants.{Some, None}
-use Rattle.std.specs.shelf.Lists.{All}
+use Rattle.std.specs.declared.option.Option.the-variants.{Some}
 use Rattle.std.proofs.shelf.Tests.{and-parts, and-from, leb-true, le-leb, eqb-true, eq-eqb}
 use Rattle.model.specs.Queue.{Over}
 use Rattle.abstraction.specs.Meaning.{Valid, Good, Removal, Meaning}
@@ -19,8 +16,8 @@ use Rattle.abstraction.proofs.Nth.{nth-cond, nth-map, nth-map-back, none-some, 
 use Rattle.abstraction.specs.Distinct.{Absent, Apart, Below, without}
 use Rattle.abstraction.proofs.Distinct.{below-over, without-absent, few-below}
 use Rattle.list_abstraction.specs.Read.{Coded}
-use Rattle.list_abstraction.specs.List.{firsts, pack, unpack, has, listed, insertions, list-code, list-good, removals-of, list-removals}
-use Rattle.list_abstraction.proofs.Lists.{firsts-apart, firsts-below, firsts-same, pack-same, pack-below, unpack-pack, listed-parts, listed-from, added, firsts-append, put-place, put-without, put-all, put-apart, put-longer, put-once}
+use Rattle.list_abstraction.specs.List.{firsts, pack, unpack, listed, insertions, list-code, list-good, removals-of, list-removals}
+use Rattle.list_abstraction.proofs.Lists.{firsts-apart, firsts-below, firsts-same, pack-same, pack-below, unpack-pack, listed-parts, listed-from, added, firsts-append, insertions-place, insertions-without, insertions-all, insertions-apart, insertions-longer, insertions-once}
 
 pub coded-of : (m : ℕ) (Q : List ℕ) → Valid m 32 → Over m Q → Coded m (list-code m Q) (firsts Q)
 coded-of m Q v o = record { valid = v; below = firsts-below m Q o; apart = firsts-apart Q; packed = refl }
@@ -50,9 +47,6 @@ coded-test m c L k =
     and-from (leb 1 m && leb m 8 && eqb (pack (unpack 8 c)) c) (listed m (unpack 8 c))
     (and-from (leb 1 m && leb m 8) (eqb (pack (unpack 8 c)) c) (and-from (leb 1 m) (leb m 8) (le-leb 1 m (k .valid .some)) (le-leb m 8 (k .valid .few))) (eq-eqb (pack (unpack 8 c)) c (ap pack u ∙ k .packed)))
     (ap (listed m) u ∙ listed-from m L (k .below) (k .apart))
-
-pub good-test : (m c : ℕ) → Decides (list-good m c) (Good 32 list-code m c)
-good-test m c = (λ t. coded-good m c (unpack 8 c) (test-coded m c t), λ g. let (L, k) = good-coded m c g in coded-test m c L k)
 
 -- the removals, from the list
 pub removals-at : (m c : ℕ) (L : List ℕ) → Coded m c L → list-removals m c ≡ removals-of L
@@ -91,7 +85,7 @@ list-removed m c k e d h =
             let s : L ≡ R = some-same L R i in
             made f L R w (subst (Below m) s (w .below .1)) (subst Apart s (w .apart .1)) (ap (without f) (sym s) ∙ without-absent f L (w .apart .0)) q
         at R (suc k) i q =
-            made f L R w (put-all (λ (y : ℕ). y < m) f L k R (w .below .0) (w .below .1) i) (put-apart f L k R (w .apart .0) (w .apart .1) i) (put-without f L k R (w .apart .0) i) q
+            made f L R w (insertions-all (λ (y : ℕ). y < m) f L k R (w .below .0) (w .below .1) i) (insertions-apart f L k R (w .apart .0) (w .apart .1) i) (insertions-without f L k R (w .apart .0) i) q
 
 list-removes : (m c e d : ℕ) → Removal 32 list-code m c e d → (k : ℕ) × (nth (list-removals m c) k ≡ Some (e, d))
 list-removes m c e d r =
@@ -99,7 +93,7 @@ list-removes m c e d r =
     let L : List ℕ = without e F in
     let k = coded-of m (e ∷ r .queue) (r .valid) (r .event, r .over) in
     let w : Coded m c (e ∷ L) = subst (λ (x : ℕ). Coded m x (e ∷ L)) (r .before) k in
-    let (j, i) = place F L (put-place e F L (firsts-apart (r .queue)) refl) in
+    let (j, i) = place F L (insertions-place e F L (firsts-apart (r .queue)) refl) in
     (j, ap (λ (xs : List (ℕ × ℕ)). nth xs j) (removals-at m c (e ∷ L) w) ∙ nth-map (left e) (L ∷ insertions e L) j F i ∙ ap (λ (x : ℕ). Some (e, x)) (r .after))
   where
     place : (F L : List ℕ) → (F ≡ L) ⊎ ((k : ℕ) × (nth (insertions e L) k ≡ Some F)) → (k : ℕ) × (nth (L ∷ insertions e L) k ≡ Some F)
@@ -114,13 +108,13 @@ list-once m c k j x h i =
   where
     lists : (e : ℕ) (L : List ℕ) → Absent e L → (k j : ℕ) (R : List ℕ) → nth (L ∷ insertions e L) k ≡ Some R → nth (L ∷ insertions e L) j ≡ Some R → k ≡ j
     lists e L a zero zero R h i = refl
-    lists e L a zero (suc j) R h i = absurd (omega (arith, put-longer e L j R i, ap length (some-same L R h)))
-    lists e L a (suc k) zero R h i = absurd (omega (arith, put-longer e L k R h, ap length (some-same L R i)))
-    lists e L a (suc k) (suc j) R h i = ap suc (put-once e L k j R a h i)
+    lists e L a zero (suc j) R h i = absurd (omega (arith, insertions-longer e L j R i, ap length (some-same L R h)))
+    lists e L a (suc k) zero R h i = absurd (omega (arith, insertions-longer e L k R h, ap length (some-same L R i)))
+    lists e L a (suc k) (suc j) R h i = ap suc (insertions-once e L k j R a h i)
 
     within : (e : ℕ) (L : List ℕ) → Coded m c (e ∷ L) → (k : ℕ) (R : List ℕ) → nth (L ∷ insertions e L) k ≡ Some R → Below m R
     within e L w zero R h = subst (Below m) (some-same L R h) (w .below .1)
-    within e L w (suc k) R h = put-all (λ (y : ℕ). y < m) e L k R (w .below .0) (w .below .1) h
+    within e L w (suc k) R h = insertions-all (λ (y : ℕ). y < m) e L k R (w .below .0) (w .below .1) h
 
     go : (L : List ℕ) → Coded m c L → nth (removals-of L) k ≡ Some x → nth (removals-of L) j ≡ Some x → k ≡ j
     go [] w n o = absurd (none-some _ n)

@@ -1,37 +1,33 @@
 -- The numbers that the calls compute, and what the list abstraction allows. Assumes nothing.
 use mathlib.Core.Path.{_≡_, refl, sym, ap, _∙_, subst}
-use mathlib.Core.Bool.{Bool, true, false, cond}
+use mathlib.Core.Bool.{Bool, cond}
 use mathlib.Core.List.{List, [], _∷_, _++_}
-use mathlib.Core.Logic.{_⊎_, inl, inr}
-use Prim.Native.Nat.{ℕ, zero, suc, _+_, _-_, _*_, _/_, _%_, _^_, _<_, _≤_}
+use mathlib.Core.Logic.{inl, inr}
+use Prim.Native.Nat.{ℕ, zero, suc, _+_, _*_, _/_, _%_, _^_, _<_, _≤_}
 use native.Mathlib.Nat.{mul-assoc, mul-comm, div-div-eq-div-mul}
 use native.Mathlib.Omega.{arith}
 use lib.Arith.{mod-mul}
 use lib.Bits.{bitOr}
-use lib.Dec.{eqb}
 use lib.ListN.{length}
 use Rattle.std.specs.Finite.{nth}
 use Rattle.std.specs.Orderings.{Decides}
-use Rattle.std.specs.shelf.Lists.{All}
 use Rattle.std.specs.declared.option.Option.the-variants.{Some, None}
 use Rattle.std.proofs.shelf.Bits.{pow-pos, pow-add, or-lt}
 use Rattle.std.proofs.shelf.Elements.{all-push}
 use Rattle.std.proofs.shelf.Lists.{length-push}
-use Rattle.std.proofs.shelf.Tests.{cases-eq, cases-bool, cases-lt}
+use Rattle.std.proofs.shelf.Tests.{cases-eq}
 use Rattle.std.proofs.shelf.Ways.{decides-like}
 use Rattle.model.specs.declared.queue.Front.{Front}
-use Rattle.model.specs.declared.queue.Front.the-variants.{Any, Empty, Event}
 use Rattle.model.specs.Queue.{Over, Waits, Bit, Covers, Begins}
-use Rattle.abstraction.specs.Meaning.{Valid, Good, Allowed, Appended}
+use Rattle.abstraction.specs.Meaning.{Allowed, Appended}
 use Rattle.abstraction.proofs.Nth.{nth-map, nth-map-none}
-use Rattle.abstraction.proofs.Masks.{below-bits, covers-zero}
 use Rattle.abstraction.proofs.Bitwise.{bit-or, or-left, or-right, bits-ext}
-use Rattle.abstraction.specs.Distinct.{Absent, Below, without}
+use Rattle.abstraction.specs.Distinct.{Below, without}
 use Rattle.abstraction.proofs.Distinct.{without-same, without-other, below-over, absent-not, apart-push, few-below}
-use Rattle.list_abstraction.specs.List.{firsts, pack, has, insertions, list-code, list-removals, removals-of}
-use Rattle.list_abstraction.specs.Read.{Coded, Marks, Seen}
-use Rattle.list_abstraction.proofs.Lists.{firsts-below, firsts-same, pack-same, pack-below, added, firsts-append, absent-has, waits-has, put-all, put-apart}
-use Rattle.list_abstraction.proofs.Meaning.{coded-good, removals-at}
+use Rattle.list_abstraction.specs.List.{firsts, pack, insertions, list-code}
+use Rattle.list_abstraction.specs.Read.{Coded, Marks}
+use Rattle.list_abstraction.proofs.Lists.{firsts-below, firsts-same, pack-same, pack-below, added, firsts-append, absent-has, waits-has}
+use Rattle.list_abstraction.proofs.Meaning.{coded-good}
 
 pub pow-place : (n : ℕ) → 2 ^ (4 * suc n) ≡ 2 ^ (4 * n) * 16
 pow-place n = let p : 4 * suc n ≡ 4 * n + 4 = omega arith in ap (λ (x : ℕ). 2 ^ x) p ∙ pow-add 2 (4 * n) 4
@@ -44,12 +40,12 @@ pack-add (f ∷ L) e =
     omega (arith, h, a)
 
 -- the code with e put in at place j
-pub put-pack : (m e : ℕ) (L : List ℕ) (j : ℕ) → m ≤ 8 → Below m L → j ≤ length L → (F : List ℕ) × (nth (insertions e L) j ≡ Some F) × (pack F ≡ (16 * (pack L / 2 ^ (4 * j)) + e + 1) * 2 ^ (4 * j) + pack L % 2 ^ (4 * j))
-put-pack m e [] zero few b l = (e ∷ [], refl, omega arith)
-put-pack m e [] (suc j) few b l = absurd (omega arith)
-put-pack m e (f ∷ L) zero few b l = (e ∷ f ∷ L, refl, omega arith)
-put-pack m e (f ∷ L) (suc j) few b l =
-    let (F, h, p) = put-pack m e L j few (b .1) (omega arith) in
+pub insertions-pack : (m e : ℕ) (L : List ℕ) (j : ℕ) → m ≤ 8 → Below m L → j ≤ length L → (F : List ℕ) × (nth (insertions e L) j ≡ Some F) × (pack F ≡ (16 * (pack L / 2 ^ (4 * j)) + e + 1) * 2 ^ (4 * j) + pack L % 2 ^ (4 * j))
+insertions-pack m e [] zero few b l = (e ∷ [], refl, omega arith)
+insertions-pack m e [] (suc j) few b l = absurd (omega arith)
+insertions-pack m e (f ∷ L) zero few b l = (e ∷ f ∷ L, refl, omega arith)
+insertions-pack m e (f ∷ L) (suc j) few b l =
+    let (F, h, p) = insertions-pack m e L j few (b .1) (omega arith) in
     let P : ℕ = 2 ^ (4 * j) in
     let N : ℕ = 16 * pack L + f + 1 in
     let a : N / 16 ≡ pack L = omega (arith, b .0) in
@@ -60,11 +56,11 @@ put-pack m e (f ∷ L) (suc j) few b l =
     let t : (16 * (N / 2 ^ (4 * suc j)) + e + 1) * 2 ^ (4 * suc j) ≡ X * P * 16 = ap (λ (x : ℕ). (16 * x + e + 1) * 2 ^ (4 * suc j)) d ∙ ap (λ (x : ℕ). X * x) (pow-place j) ∙ sym (mul-assoc X P 16) in
     (f ∷ F, nth-map (λ (R : List ℕ). f ∷ R) (insertions e L) j F h, omega (arith, p, s, t))
 
-pub put-end : (e : ℕ) (L : List ℕ) (j : ℕ) → length L < j → nth (insertions e L) j ≡ None
-put-end e [] zero l = absurd (omega arith)
-put-end e [] (suc j) l = refl
-put-end e (f ∷ L) zero l = absurd (omega arith)
-put-end e (f ∷ L) (suc j) l = nth-map-none (λ (R : List ℕ). f ∷ R) (insertions e L) j (put-end e L j (omega arith))
+pub insertions-end : (e : ℕ) (L : List ℕ) (j : ℕ) → length L < j → nth (insertions e L) j ≡ None
+insertions-end e [] zero l = absurd (omega arith)
+insertions-end e [] (suc j) l = refl
+insertions-end e (f ∷ L) zero l = absurd (omega arith)
+insertions-end e (f ∷ L) (suc j) l = nth-map-none (λ (R : List ℕ). f ∷ R) (insertions e L) j (insertions-end e L j (omega arith))
 
 -- a queue holds what its list holds
 without-waits : (e f : ℕ) (L : List ℕ) → Waits e (without f L) → Waits e L
@@ -139,15 +135,6 @@ module _ (m c : ℕ) (L : List ℕ) (k : Coded m c L) where
     list-allows front begin r d = decides-like r
         (λ p. record { valid = k .valid; queue = L; over = below-over m L (k .below); coded = ap pack same ∙ k .packed; begins = begin; covers = part p L same })
         (λ a. part-back (a .queue) (its-list (a .queue) (a .over) (a .coded)) (a .covers)) d
-
-  pub list-empty : (mask : ℕ) → mask < 2 ^ 8 → c ≡ 0 → (r : Bool) → Decides r (mask ≡ 0) → Decides r (Allowed 32 list-code m c Empty mask)
-  list-empty mask small z r d = decides-like r
-      (λ p. record { valid = k .valid; queue = []; over = tt; coded = sym z; begins = tt; covers = subst (λ (x : ℕ). Covers x []) (sym p) (covers-zero []) })
-      (λ a. none (a .queue) (a .begins) (a .covers)) d
-    where
-      none : (Q : List ℕ) → Begins Empty Q → Covers mask Q → mask ≡ 0
-      none [] b h = let l : mask < 2 ^ 0 = below-bits 8 0 mask small (λ e x. absurd (h e x)) in omega arith
-      none (e ∷ Q) b h = absurd b
 
   -- the first event of a code that is not 0
   pub first-of : (c ≡ 0 → ⊥) → (e : ℕ) × (R : List ℕ) × (L ≡ e ∷ R) × (e < m) × (c ≡ 16 * pack R + e + 1)

@@ -1,8 +1,8 @@
 -- The front of a code that has been read. Assumes nothing.
 use mathlib.Core.Path.{_≡_, refl, sym, ap, _∙_, subst}
 use mathlib.Core.List.{List, [], _∷_, _++_}
-use mathlib.Core.Logic.{_⊎_, inl, inr}
-use Prim.Native.Nat.{ℕ, zero, suc, _+_, _*_, _^_, _<_, _≤_}
+use mathlib.Core.Logic.{inl, inr}
+use Prim.Native.Nat.{ℕ, _+_, _*_, _^_, _<_, _≤_}
 use native.Mathlib.Omega.{arith}
 use lib.Bits.{bitOr}
 use lib.ListN.{length}
@@ -17,7 +17,7 @@ use Rattle.abstraction.specs.Distinct.{Apart, Below}
 use Rattle.abstraction.proofs.Masks.{bit-below}
 use Rattle.abstraction.proofs.Distinct.{waits-append, append-waits, apart-push, few-below}
 use Rattle.list_abstraction.specs.List.{pack, list-code}
-use Rattle.list_abstraction.specs.Read.{Coded, Marks, Seen}
+use Rattle.list_abstraction.specs.Read.{Marks, Seen}
 use Rattle.list_abstraction.proofs.Meaning.{good-coded}
 
 abbrev pub onto : List ℕ → ℕ → ℕ

@@ -1,9 +1,9 @@
 -- What the set abstraction allows. Assumes nothing.
 use mathlib.Core.Path.{_≡_, refl, sym, ap, _∙_, subst}
-use mathlib.Core.Bool.{Bool, true, false}
+use mathlib.Core.Bool.{Bool}
 use mathlib.Core.List.{List, [], _∷_}
-use mathlib.Core.Logic.{_⊎_, inl, inr}
-use Prim.Native.Nat.{ℕ, _^_, _<_, _≤_}
+use mathlib.Core.Logic.{inl, inr}
+use Prim.Native.Nat.{ℕ, _^_, _<_}
 use native.Mathlib.Nat.{lt-of-lt-of-le}
 use native.Mathlib.Omega.{arith}
 use lib.Bits.{bitOr}
@@ -11,11 +11,10 @@ use lib.Pow.{pow-mono}
 use Rattle.std.specs.Orderings.{Decides}
 use Rattle.std.proofs.shelf.Bits.{or-lt}
 use Rattle.std.proofs.shelf.Ways.{decides-like}
-use Rattle.model.specs.declared.queue.Front.{Front}
-use Rattle.model.specs.declared.queue.Front.the-variants.{Any, Empty, Event}
-use Rattle.model.specs.Queue.{Over, Waits, Bit, Covers, Begins}
+use Rattle.model.specs.declared.queue.Front.the-variants.{Any, Event}
+use Rattle.model.specs.Queue.{Bit, Covers, Begins}
 use Rattle.abstraction.specs.Meaning.{Valid, Allowed}
-use Rattle.abstraction.proofs.Masks.{bit-below, below-bits, covers-zero}
+use Rattle.abstraction.proofs.Masks.{bit-below}
 use Rattle.abstraction.proofs.Bitwise.{bit-or, or-left, or-right, bits-ext}
 use Rattle.set_abstraction.specs.Set.{set-code}
 use Rattle.set_abstraction.proofs.Codes.{code-waits, waits-code, queue-of, queue-over, code-queue, with-same}
@@ -54,12 +53,3 @@ module _ (m c mask : ℕ) (v : Valid m 8) (l : c < 2 ^ m) (low : mask < 256) whe
       go : (Q : List ℕ) → set-code m Q ≡ c → Begins (Event e) Q → Bit c e
       go [] p b = absurd b
       go (f ∷ Q) p b = subst (λ (x : ℕ). Bit x e) p (waits-code m e (f ∷ Q) (inl (sym b)))
-
-  pub empty-answer : (r : Bool) → c ≡ 0 → Decides r (mask ≡ 0) → Decides r (Allowed 8 set-code m c Empty mask)
-  empty-answer r z d = decides-like r
-      (λ p. record { valid = v; queue = []; over = tt; coded = sym z; begins = tt; covers = subst (λ (x : ℕ). Covers x []) (sym p) (covers-zero []) })
-      (λ a. none (a .queue) (a .begins) (a .covers)) d
-    where
-      none : (Q : List ℕ) → Begins Empty Q → Covers mask Q → mask ≡ 0
-      none [] b h = let k : mask < 2 ^ 0 = below-bits 8 0 mask low (λ e x. absurd (h e x)) in omega arith
-      none (e ∷ Q) b h = absurd b

@@ -1,19 +1,18 @@
 -- The codes of the set abstraction. Assumes nothing.
-use mathlib.Core.Path.{_≡_, refl, sym, ap, _∙_, subst}
+use mathlib.Core.Path.{_≡_, refl, sym, subst}
 use mathlib.Core.Bool.{Bool, true, false, cond}
 use mathlib.Core.List.{List, [], _∷_, _++_}
 use mathlib.Core.Logic.{_⊎_, inl, inr}
-use Prim.Native.Nat.{ℕ, zero, suc, _+_, _-_, _/_, _%_, _^_, _<_, _≤_}
+use Prim.Native.Nat.{ℕ, zero, suc, _-_, _/_, _%_, _^_, _<_, _≤_}
 use native.Mathlib.Nat.{lt-of-lt-of-le, lt-of-le-of-lt}
 use native.Mathlib.Omega.{arith}
-use lib.Bits.{bitAnd, bitOr, and-le-l}
-use lib.Dec.{eqb}
+use lib.Bits.{bitOr, and-le-l}
 use lib.Pow.{pow-mono}
 use Rattle.std.proofs.shelf.Bits.{or-lt, pow-pos, pow-below}
-use Rattle.std.proofs.shelf.Tests.{cases-bool, eqb-true, eqb-false, eq-eqb, cases-eq}
-use Rattle.model.specs.Queue.{Over, Waits, Bit, Covers}
+use Rattle.std.proofs.shelf.Tests.{cases-bool, eqb-true, eqb-false, cases-eq}
+use Rattle.model.specs.Queue.{Over, Waits, Bit}
 use Rattle.abstraction.specs.Meaning.{Valid, Good}
-use Rattle.abstraction.proofs.Masks.{bit-below, over-append, waits-below}
+use Rattle.abstraction.proofs.Masks.{bit-below, over-append}
 use Rattle.abstraction.proofs.Bitwise.{bit-or, or-left, or-right, pow-bit, bit-pow, bits-ext, bit-out}
 use Rattle.abstraction.proofs.Distinct.{waits-append, append-waits}
 use Rattle.set_abstraction.specs.Set.{set-code, present, absent}

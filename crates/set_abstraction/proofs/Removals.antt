@@ -1,20 +1,19 @@
 -- The removals of the set abstraction. Assumes nothing.
 use mathlib.Core.Path.{_≡_, refl, sym, ap, _∙_, subst}
-use mathlib.Core.Bool.{Bool, true, false, cond, _&&_}
+use mathlib.Core.Bool.{Bool, true, false, cond}
 use mathlib.Core.List.{List, [], _∷_, _++_}
 use mathlib.Core.Logic.{_⊎_, inl, inr}
-use Prim.Native.Nat.{ℕ, zero, suc, _+_, _-_, _/_, _%_, _^_, _<_, _≤_}
+use Prim.Native.Nat.{ℕ, zero, suc, _+_, _/_, _%_, _^_, _<_, _≤_}
 use native.Mathlib.Nat.{lt-of-lt-of-le}
 use native.Mathlib.Omega.{arith}
-use lib.Bits.{bitAnd, bitOr}
-use lib.Dec.{eqb, leb, ltb}
+use lib.Bits.{bitOr}
 use lib.Pow.{pow-mono}
 use Rattle.std.specs.Finite.{nth}
-use Rattle.std.specs.declared.option.Option.the-variants.{Some, None}
+use Rattle.std.specs.declared.option.Option.the-variants.{Some}
 use Rattle.std.proofs.shelf.Tests.{eqb-true, eq-eqb, cases-eq}
 use Rattle.std.proofs.shelf.Ways.{tells}
-use Rattle.model.specs.Queue.{Over, Bit}
-use Rattle.abstraction.specs.Meaning.{Valid, Removal, Meaning}
+use Rattle.model.specs.Queue.{Bit}
+use Rattle.abstraction.specs.Meaning.{Removal, Meaning}
 use Rattle.abstraction.proofs.Nth.{nth-cond, none-some, some-same}
 use Rattle.abstraction.proofs.Bitwise.{or-left, pow-bit}
 use Rattle.set_abstraction.specs.Set.{set-code, present, absent, set-from, set-good, set-removals}

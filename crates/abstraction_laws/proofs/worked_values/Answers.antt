@@ -1,6 +1,5 @@
-use mathlib.Core.Path.{_≡_, refl}
-use mathlib.Core.Logic.{inl, inr, ⊎-elim}
-use Prim.Native.Nat.{ℕ}
+use mathlib.Core.Path.{refl}
+use mathlib.Core.Logic.{inl, ⊎-elim}
 use native.Mathlib.Omega.{arith}
 use Rattle.list_abstraction.specs.List.{unpack, list-code}
 use Rattle.list_abstraction.proofs.Meaning.{test-coded}

@@ -1,4 +1,3 @@
-use Prim.Native.Nat.{_≤_}
 use Rattle.list_abstraction.proofs.Prefix.{Far}
 use Rattle.list_abstraction.proofs.read.Given as given
 

@@ -1,8 +1,5 @@
-use mathlib.Core.Path.{_≡_, refl}
-use Prim.Native.Nat.{ℕ, _/_, _^_, _<_}
 use native.Mathlib.Nat.{div-eq-of-lt, lt-of-lt-of-le}
 use native.Mathlib.Omega.{arith}
-use lib.Dec.{eqb, leb}
 use lib.Pow.{pow-mono}
 use Rattle.std.proofs.shelf.Tests.{eqb-true, eq-eqb, le-leb}
 use Rattle.abstraction.proofs.Masks.{quotient-zero}

@@ -1,5 +1,5 @@
-use mathlib.Core.Path.{_≡_, refl, sym, subst}
-use mathlib.Core.Bool.{Bool, true}
+use mathlib.Core.Path.{_≡_, sym, subst}
+use mathlib.Core.Bool.{Bool}
 use Prim.Native.Nat.{ℕ, _<_, _^_}
 use native.Mathlib.Omega.{arith}
 use borrow.Author.Needs.{needs}
@@ -8,8 +8,9 @@ use Rattle.std.proofs.shelf.Tests.{ltb-true}
 use Rattle.std.proofs.shelf.Ways.{decides-eqb}
 use Rattle.model.specs.declared.queue.Front.{Front}
 use Rattle.abstraction.specs.Meaning.{Allowed}
+use Rattle.abstraction.proofs.Calls.{empty-allows}
 use Rattle.blank_abstraction.specs.Blank.{blank-code}
-use Rattle.blank_abstraction.proofs.Allows.{any-answer, empty-answer, event-answer, event-below}
+use Rattle.blank_abstraction.proofs.Allows.{any-answer, event-answer, event-below}
 use Rattle.blank_abstraction.proofs.BlankMeaning.allows.Needs as need
 
 abbrev Answer : ℕ → ℕ → ℕ → Bool → Front → Type 0
@@ -27,7 +28,7 @@ returns-in-Any c =
 pub returns-in-Empty : need.returns-in-Empty
 returns-in-Empty c =
     subst (Answer (c .args .m) (c .args .c) (c .args .mask) _) (sym (c .in-Empty .is))
-    (empty-answer (c .args .m) (c .args .c) (c .args .mask) (search needs) (search needs) (search needs) _ (decides-eqb (c .args .mask) 0))
+    (empty-allows 0 blank-code (c .args .m) (c .args .c) (c .args .mask) (search needs) (search needs) (search needs) _ (decides-eqb (c .args .mask) 0))
 
 pub returns-then-e-m : need.returns-then-e-m
 returns-then-e-m c =

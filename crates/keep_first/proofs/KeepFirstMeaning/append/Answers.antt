@@ -1,12 +1,11 @@
-use mathlib.Core.Path.{_≡_, refl, sym, ap, _∙_, subst}
-use mathlib.Core.List.{List, []}
-use Prim.Native.Nat.{ℕ, _<_, _^_, _+_, _*_}
+use mathlib.Core.Path.{_≡_, refl, sym, _∙_, subst}
+use mathlib.Core.List.{[]}
+use Prim.Native.Nat.{ℕ, _<_, _^_}
 use native.Mathlib.Omega.{arith}
-use Rattle.std.specs.declared.option.Option.{Option}
 use Rattle.std.specs.declared.option.Option.the-variants.{Some, None}
 use Rattle.abstraction.specs.Meaning.{Valid, Appended}
 use Rattle.keep_first.specs.KeepFirst.{Split, keep-bits, keep-code}
-use Rattle.keep_first.proofs.Kept.{narrow-below, valid-below, append-up, append-small, good-parts, good-down}
+use Rattle.keep_first.proofs.Kept.{narrow-below, valid-below, append-up, append-small, good-parts}
 use Rattle.keep_first.proofs.KeepFirstMeaning.append.Needs as need
 
 pub join-requires : need.join-requires

@@ -1,4 +1,4 @@
-use mathlib.Core.Path.{_≡_, refl, sym, subst}
+use mathlib.Core.Path.{subst}
 use Prim.Native.Nat.{ℕ}
 use Rattle.std.proofs.shelf.Tests.{false≢true}
 use Rattle.abstraction.specs.Meaning.{Valid}

@@ -1,15 +1,14 @@
-use mathlib.Core.Path.{_≡_, refl, sym, ap, _∙_, subst}
-use mathlib.Core.Bool.{Bool, true, cond}
-use mathlib.Core.List.{List, [], _∷_}
-use Prim.Native.Nat.{ℕ, suc, _<_, _^_, _+_, _*_}
+use mathlib.Core.Path.{_≡_, sym, ap, _∙_, subst}
+use mathlib.Core.Bool.{cond}
+use mathlib.Core.List.{[]}
+use Prim.Native.Nat.{ℕ, suc, _<_, _^_}
 use native.Mathlib.Omega.{arith}
 use lib.Dec.{eqb}
 use Rattle.std.proofs.shelf.Tests.{cond-true, cond-false, eq-eqb, ne-eqb}
-use Rattle.std.specs.Finite.{nth}
 use Rattle.std.specs.declared.option.Option.the-variants.{Some, None}
 use Rattle.abstraction.specs.Meaning.{Valid}
 use Rattle.abstraction.proofs.Nth.{nothing, nth-map, nth-map-none}
-use Rattle.keep_first.specs.KeepFirst.{Split, keep-bits, keep-code, kept}
+use Rattle.keep_first.specs.KeepFirst.{Split, keep-bits, kept}
 use Rattle.keep_first.proofs.Kept.{narrow-below, keep-begun, keep-nth}
 use Rattle.keep_first.proofs.KeepFirstMeaning.removal.Needs as need
 use Rattle.keep_first.proofs.KeepFirstMeaning.removal.Needs.{then-rest-empty·else-k-eq0, else-rest-empty}

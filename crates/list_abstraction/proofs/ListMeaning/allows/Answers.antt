@@ -1,17 +1,17 @@
-use mathlib.Core.Path.{_≡_, refl, sym, ap, _∙_, subst}
-use mathlib.Core.Bool.{Bool, true}
-use mathlib.Core.List.{List, [], _∷_}
-use Prim.Native.Nat.{ℕ, _+_, _*_, _%_, _^_, _<_, _≤_}
+use mathlib.Core.Path.{_≡_, sym, subst}
+use mathlib.Core.Bool.{Bool}
+use Prim.Native.Nat.{ℕ}
 use native.Mathlib.Omega.{arith}
 use lib.Bits.{bitOr}
 use Rattle.std.specs.Orderings.{Decides}
 use Rattle.std.proofs.shelf.Ways.{decides-eqb}
 use Rattle.model.specs.declared.queue.Front.{Front}
-use Rattle.model.specs.declared.queue.Front.the-variants.{Any, Empty, Event}
+use Rattle.model.specs.declared.queue.Front.the-variants.{Any, Event}
 use Rattle.abstraction.specs.Meaning.{Allowed}
 use Rattle.model.specs.Queue.{Begins}
+use Rattle.abstraction.proofs.Calls.{empty-allows}
 use Rattle.list_abstraction.specs.List.{list-code}
-use Rattle.list_abstraction.proofs.Places.{list-allows, list-empty, first-of}
+use Rattle.list_abstraction.proofs.Places.{list-allows, first-of}
 use Rattle.list_abstraction.proofs.ListMeaning.allows.Needs as need
 
 abbrev Answer : ℕ → ℕ → ℕ → Bool → Front → Type 0
@@ -27,7 +27,7 @@ pub returns-then-c-eq0 : need.returns-then-c-eq0
 returns-then-c-eq0 c =
     let s = c .in-Some .ensures tt in
     subst (Answer (c .args .m) (c .args .c) (c .args .mask) _) (sym (c .in-Empty .is))
-    (list-empty (c .args .m) (c .args .c) (s .list) (s .coded) (c .args .mask) (omega arith) (c .if-c-eq0 .taken) _ (decides-eqb (c .args .mask) 0))
+    (empty-allows 32 list-code (c .args .m) (c .args .c) (c .args .mask) (s .coded .valid) (sym (c .if-c-eq0 .taken)) (omega arith) _ (decides-eqb (c .args .mask) 0))
 
 pub returns-then-c-from : need.returns-then-c-from
 returns-then-c-from c =

@@ -1,18 +1,18 @@
-use mathlib.Core.Path.{_≡_, refl, sym, ap, _∙_, subst}
-use mathlib.Core.List.{List, [], _∷_, map}
-use Prim.Native.Nat.{ℕ, zero, suc, _+_, _-_, _*_, _/_, _%_, _^_, _<_, _≤_}
+use mathlib.Core.Path.{_≡_, sym, ap, _∙_, subst}
+use mathlib.Core.List.{List, _∷_}
+use Prim.Native.Nat.{ℕ, suc, _+_, _-_, _*_, _/_, _%_, _^_, _<_, _≤_}
 use native.Mathlib.Omega.{arith}
 use lib.ListN.{length}
 use Rattle.std.specs.Finite.{nth}
-use Rattle.std.specs.declared.option.Option.the-variants.{Some, None}
-use Rattle.abstraction.specs.Meaning.{Good}
-use Rattle.abstraction.proofs.Nth.{nothing, nth-map, nth-map-none}
+use Rattle.std.specs.declared.option.Option.the-variants.{Some}
+use Rattle.abstraction.proofs.Nth.{nth-map, nth-map-none}
 use Rattle.abstraction.proofs.Distinct.{few-below}
-use Rattle.list_abstraction.specs.List.{pack, insertions, list-code, list-removals, removals-of}
+use Rattle.abstraction.proofs.Calls.{no-removal}
+use Rattle.list_abstraction.specs.List.{pack, insertions, list-removals, removals-of}
 use Rattle.list_abstraction.specs.Read.{Seen, Coded}
-use Rattle.list_abstraction.proofs.Lists.{pack-below, put-all, put-apart}
+use Rattle.list_abstraction.proofs.Lists.{pack-below, insertions-all, insertions-apart}
 use Rattle.list_abstraction.proofs.Meaning.{removals-at, list-meaning}
-use Rattle.list_abstraction.proofs.Places.{first-of, put-pack, put-end}
+use Rattle.list_abstraction.proofs.Places.{first-of, insertions-pack, insertions-end}
 use Rattle.list_abstraction.proofs.ListMeaning.removal.Needs as need
 
 -- the list of a good code that is not 0
@@ -41,13 +41,8 @@ parts m c mask count s z =
       few = omega (arith, few-below m (s .list) (s .coded .below) (s .coded .apart), s .count);
     }
 
-none : (m c k : ℕ) → (Good 32 list-code m c → ⊥) → None ≡ nth (list-removals m c) k
-none m c k n = nothing (nth (list-removals m c) k) (λ (e, d) h.
-    let r = list-meaning .removed m c k e d h in
-    n (record { valid = r .valid; queue = e ∷ r .queue; over = (r .event, r .over); coded = r .before }))
-
 pub returns-in-Break-listed : need.returns-in-Break-listed
-returns-in-Break-listed c = c .from-residual .ensures ∙ none (c .args .m) (c .args .c) (c .args .k) (c .in-Break-listed .ensures tt)
+returns-in-Break-listed c = c .from-residual .ensures ∙ no-removal list-meaning (c .args .m) (c .args .c) (c .args .k) (c .in-Break-listed .ensures tt)
 
 pub sub-e : need.sub-e
 sub-e c = parts _ _ _ _ (c .in-Continue-listed .ensures tt) (c .if-c-eq0 .left) .some
@@ -67,7 +62,7 @@ returns-then-k-from c =
     let k : c .args .k ≡ suc (c .args .k - 1) = omega (arith, c .if-k-eq0 .left) in
     let l : length (p .rest) < c .args .k - 1 = omega (arith, c .if-k-from .taken, c .from .ensures, p .count-is) in
     sym (at (c .args .m) (c .args .c) _ (c .args .k) p ∙ ap (nth (removals-of (p .first ∷ p .rest))) k
-    ∙ nth-map-none (λ (R : List ℕ). (p .first, pack R)) (insertions (p .first) (p .rest)) (c .args .k - 1) (put-end (p .first) (p .rest) (c .args .k - 1) l))
+    ∙ nth-map-none (λ (R : List ℕ). (p .first, pack R)) (insertions (p .first) (p .rest)) (c .args .k - 1) (insertions-end (p .first) (p .rest) (c .args .k - 1) l))
 
 pub place-here-requires : need.place-here-requires
 place-here-requires c κs =
@@ -86,9 +81,9 @@ left m c count j wide here p l q h =
     let few = p .coded .valid .few in
     let below = p .coded .below in
     let apart = p .coded .apart in
-    let (F, n, v) = put-pack m e R j few (below .1) (omega (arith, p .count-is)) in
-    let b = put-all (λ (y : ℕ). y < m) e R j F (below .0) (below .1) n in
-    let a = put-apart e R j F (apart .0) (apart .1) n in
+    let (F, n, v) = insertions-pack m e R j few (below .1) (omega (arith, p .count-is)) in
+    let b = insertions-all (λ (y : ℕ). y < m) e R j F (below .0) (below .1) n in
+    let a = insertions-apart e R j F (apart .0) (apart .1) n in
     let s : length F ≤ 8 = omega (arith, few-below m F b a) in
     let w : pack F ≡ (16 * (c / 16 / here) + wide + 1) * here + c / 16 % here =
     v ∙ ap (λ (x : ℕ). (16 * (pack R / x) + e + 1) * x + pack R % x) (sym h)

@@ -1,6 +1,6 @@
-use mathlib.Core.Path.{_≡_, refl, sym, ap, _∙_, subst}
-use mathlib.Core.Bool.{Bool, true}
-use Prim.Native.Nat.{ℕ, _<_, _^_, _/_, _%_}
+use mathlib.Core.Path.{_≡_, refl, sym, _∙_, subst}
+use mathlib.Core.Bool.{Bool}
+use Prim.Native.Nat.{ℕ, _^_, _/_, _%_}
 use native.Mathlib.Omega.{arith}
 use lib.Bits.{bitOr}
 use lib.Dec.{eqb}
@@ -8,12 +8,12 @@ use Rattle.std.specs.Orderings.{Decides}
 use Rattle.std.proofs.shelf.Tests.{false≢true, eqb-true, eqb-false}
 use Rattle.std.proofs.shelf.Ways.{decides-eqb}
 use Rattle.model.specs.declared.queue.Front.{Front}
-use Rattle.model.specs.declared.queue.Front.the-variants.{Any, Empty, Event}
 use Rattle.model.specs.Queue.{Bit}
 use Rattle.abstraction.specs.Meaning.{Allowed}
+use Rattle.abstraction.proofs.Calls.{empty-allows}
 use Rattle.set_abstraction.specs.Set.{set-code}
 use Rattle.set_abstraction.proofs.Codes.{set-good-below}
-use Rattle.set_abstraction.proofs.Allows.{any-answer, empty-answer, event-answer, event-needs}
+use Rattle.set_abstraction.proofs.Allows.{any-answer, event-answer, event-needs}
 use Rattle.set_abstraction.proofs.SetMeaning.allows.Needs as need
 
 abbrev Answer : ℕ → ℕ → ℕ → Bool → Front → Type 0
@@ -33,7 +33,7 @@ pub returns-then-c-eq0 : need.returns-then-c-eq0
 returns-then-c-eq0 c =
     let g = c .if-not-good .ensures tt .0 refl in
     subst (Answer (c .args .m) (c .args .c) (c .args .mask) _) (sym (c .in-Empty .is))
-    (empty-answer (c .args .m) (c .args .c) (c .args .mask) (g .valid) (set-good-below (c .args .m) (c .args .c) g) (omega arith) _ (c .if-c-eq0 .taken) (decides-eqb (c .args .mask) 0))
+    (empty-allows 8 set-code (c .args .m) (c .args .c) (c .args .mask) (g .valid) (sym (c .if-c-eq0 .taken)) (omega arith) _ (decides-eqb (c .args .mask) 0))
 
 pub returns-then-has : need.returns-then-has
 returns-then-has c =

@@ -1,24 +1,22 @@
-use mathlib.Core.Path.{_≡_, refl, sym, ap, _∙_, subst}
-use mathlib.Core.Bool.{Bool, true, false, cond}
-use mathlib.Core.List.{List, [], _∷_, _++_}
-use Prim.Native.Nat.{ℕ, zero, suc, _+_, _-_, _<_, _≤_, _^_}
+use mathlib.Core.Path.{_≡_, refl, sym, ap, _∙_}
+use mathlib.Core.Bool.{Bool, true, cond}
+use mathlib.Core.List.{[], _∷_, _++_}
+use Prim.Native.Nat.{ℕ, suc, _+_, _-_, _<_}
 use native.Mathlib.Omega.{arith}
 use lib.Bits.{bitAnd}
 use Rattle.std.specs.Finite.{nth}
-use Rattle.std.specs.declared.option.Option.the-variants.{Some, None}
+use Rattle.std.specs.declared.option.Option.the-variants.{Some}
 use Rattle.std.proofs.shelf.Tests.{cond-true, cond-false}
 use Rattle.std.proofs.shelf.Ways.{tells, not-from-decides}
-use Rattle.abstraction.proofs.Nth.{nothing}
-use Rattle.set_abstraction.specs.Set.{set-removals, set-from, set-good, set-code, present, absent}
+use Rattle.abstraction.proofs.Calls.{no-removal}
+use Rattle.set_abstraction.specs.Set.{set-from, set-good, present, absent}
 use Rattle.set_abstraction.proofs.Codes.{set-good-below}
-use Rattle.set_abstraction.proofs.Removals.{set-removed, two-first, two-second, two-rest}
+use Rattle.set_abstraction.proofs.Removals.{set-meaning, two-first, two-second, two-rest}
 use Rattle.set_abstraction.proofs.SetMeaning.removal.Needs as need
 use Rattle.set_abstraction.proofs.SetMeaning.removal.Needs.{then-has·else-left-eq0·else-left-eq1, else-has}
 
 pub returns-then-not-good : need.returns-then-not-good
-returns-then-not-good c = nothing _ (λ (e, d) h.
-    let r = set-removed (c .args .m) (c .args .c) (c .args .k) e d h in
-    not-from-decides _ (c .good-2 .ensures) (c .if-not-good .taken) (record { valid = r .valid; queue = e ∷ r .queue; over = (r .event, r .over); coded = r .before }))
+returns-then-not-good c = no-removal set-meaning (c .args .m) (c .args .c) (c .args .k) (not-from-decides _ (c .good-2 .ensures) (c .if-not-good .taken))
 
 pub loop-e-holds : need.loop-e-holds
 loop-e-holds c =
