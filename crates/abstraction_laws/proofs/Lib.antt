@@ -1,0 +1,2 @@
+mod Positions
+mod Prefix

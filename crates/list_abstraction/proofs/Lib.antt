@@ -1,0 +1,4 @@
+pub mod Lists
+pub mod Meaning
+pub mod Prefix
+pub mod Places
