@@ -1,0 +1,4 @@
+pub mod Closure
+pub mod Chosen
+pub mod Lets
+pub mod Outside

@@ -1,0 +1,4 @@
+pub mod Records
+pub mod Judging
+pub mod Theorems
+pub mod Codes
