@@ -5,6 +5,7 @@ use Prim.Native.Nat.{ℕ}
 use lib.ListN.{length}
 use Rattle.std.specs.Finite.{nth}
 use Rattle.std.specs.declared.option.Option.the-variants.{Some}
+use Rattle.std.specs.declared.result.Result.{Result}
 use Rattle.model.specs.declared.fault.Fault.{Fault}
 use Rattle.model.specs.declared.fault.Refusal.the-variants.{Surprise, PatternMet, StepOutside}
 use Rattle.model.specs.declared.rule.Action.{Action}
@@ -14,7 +15,7 @@ use Rattle.model.specs.System.{machines, ruleOf, patternOf}
 use Rattle.model.specs.State.{State, queueAt}
 use Rattle.model.specs.Steps.{Makes}
 use Rattle.model.specs.Bad.{Surprised, Met}
-use Rattle.model.specs.Order.{Order, one, _then_, each}
+use Rattle.model.specs.Order.{Order, one, _then_, each, Answered}
 use Rattle.closed_sets.specs.Records.{Claim, Record, codeIn, recordOf, Represented, Lets}
 
 -- record k lets machine i be surprised by event e; lets pattern p be met; lets rule r lead outside by its outcome c
@@ -73,3 +74,7 @@ ofRecord T k = surprises T k then patterns T k then steps T k
 -- record by record
 abbrev pub judged : Claim → Order Finding
 judged T = each (length (T .records)) (ofRecord T)
+
+-- nothing of the order applies, or the fault is that of the first that does
+abbrev pub Judged : Claim → Order Finding → Result (Unit {0}) Fault → Type 0
+Judged T o r = Answered (Applies T) numbers o r

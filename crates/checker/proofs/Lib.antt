@@ -1,0 +1,4 @@
+pub mod Read
+pub mod Ordered
+pub mod Holding
+pub mod Deciding
