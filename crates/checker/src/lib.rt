@@ -1,6 +1,8 @@
 // The check of a table against a state set, under a queue abstraction.
 mod held;
 mod parts;
+mod pattern;
 pub mod pass;
 pub mod state_set;
+mod step;
 mod surprise;
