@@ -1,7 +1,7 @@
 -- What the inner functions of the check are told and answer. Assumes nothing.
 use mathlib.Core.Path.{_≡_}
 use mathlib.Core.List.{List, []}
-use Prim.Native.Nat.{ℕ, _<_}
+use Prim.Native.Nat.{ℕ, _+_, _*_, _<_}
 use lib.ListN.{length, getD}
 use Rattle.std.specs.declared.result.Result.{Result}
 use Rattle.std.specs.declared.result.Result.the-variants.{Ok, Err}
@@ -13,6 +13,7 @@ use Rattle.closed_sets.specs.Records.{Claim, Record, recordOf, localIn, Sound}
 use Rattle.closed_sets.specs.Judging.{numbers, outside}
 use Rattle.checker.specs.declared.held.Held.{Held}
 use Rattle.checker.specs.Held.{recordIn}
+use Rattle.checker.specs.SetFile.{recordsN, recordByte, Before}
 
 -- what is held is record k, and it is sound
 pub record Judging (T : Claim) (n k : ℕ) (h : Held) : Type 0 where
@@ -34,3 +35,8 @@ pub record Enabled (T : Claim) (k r : ℕ) (x : Rule) (a : Action) : Type 0 wher
 abbrev pub Inside : List Record → Record → ℕ → ℕ → ℕ → Result (Unit {0}) Fault → Type 0
 Inside rs u k r c (Ok v) = ListedIn rs u
 Inside rs u k r c (Err f) = (f ≡ numbers (outside k r c)) × (ListedIn rs u → ⊥)
+
+-- in the records every code is good, and they rise
+pub record Formed (n : ℕ) (set : List ℕ) (T : Claim) : Type 0 where
+  pub sound : (k : ℕ) → k < recordsN set → Sound T (recordOf T k)
+  pub rising : (k : ℕ) → k + 1 < recordsN set → Before (9 * n) (recordByte n set k) (recordByte n set (k + 1))

@@ -8,15 +8,15 @@ use Rattle.model.specs.declared.fault.Fault.{Fault}
 use Rattle.model.specs.State.{State}
 use Rattle.model.specs.Steps.{Reaches}
 use Rattle.model.specs.Bad.{Bad}
-use Rattle.model.specs.Order.{Nothing, FirstFault, _then_}
+use Rattle.model.specs.Order.{Nothing, FirstFault}
 use Rattle.table.specs.Reading.{Reads}
 use Rattle.closed_sets.specs.Records.{Claim, Closed, Represented}
-use Rattle.checker.specs.Verdict.{Applies, numbers, order, headerOrder, formOrder}
+use Rattle.checker.specs.Verdict.{Applies, numbers, order, formOrder}
 use Rattle.checker.specs.declared.pass.Pass.{Pass}
 
 -- nothing is wrong with the header, the length, the records or their order
 abbrev pub GoodForm : List ℕ → List ℕ → Claim → Type 0
-GoodForm table set T = Nothing (Applies table set T) (headerOrder then formOrder set)
+GoodForm table set T = Nothing (Applies table set T) (formOrder set)
 
 -- the table reads, the set is in good form under it, and it is closed: it represents the start, and every state that it
 -- represents is not bad and steps only to states that it represents

@@ -2,7 +2,7 @@
 ghost use mathlib.Core.Path.{_≡_};
 ghost use Prim.Native.Nat.{ℕ, _<_, _≤_};
 ghost use Rattle.std.specs.Orderings.{Decides};
-ghost use Rattle.model.specs.System.{ruleOf};
+ghost use Rattle.model.specs.System.{statesOf, ruleOf};
 ghost use Rattle.model.specs.Bad.{Takes, NoTake};
 ghost use Rattle.table.specs.Layout.{machinesN, eventsN, rulesN, patternLinesN, patternOffset};
 ghost use Rattle.table.specs.Lines.{patternLineAt};
@@ -27,6 +27,13 @@ pub fn events(table: &Table<'_>) -> u8
     ensures { λ r. ⌜ r ≡ eventsN (now (now (table .entry) .bytes)) ⌝ }
 {
     table.event_count() as u8
+}
+
+// The number of local states of a machine; 0 where there is no such machine.
+pub fn local_states(table: &Table<'_>, machine: u8) -> u8
+    ensures { λ r. ⌜ r ≡ statesOf (systemOf (now (now (table .entry) .bytes))) machine ⌝ }
+{
+    table.local_states(u16::from(machine)).unwrap_or(0)
 }
 
 // The rule of number `r`.

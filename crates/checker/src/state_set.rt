@@ -55,6 +55,17 @@ impl<'a> StateSet<'a> {
         load(self.bytes, n, k)
     }
 
+    // Whether record `k`, which is held, stands above the one before.
+    pub(crate) fn stands_above(&self, k: u16, held: &Held) -> bool
+        requires few { ⌜ now held .machines ≤ 6 ⌝ }
+        requires some { ⌜ 0 < k ⌝ }
+        requires long { ⌜ 16 + 9 * now held .machines * (k - 1) + 9 * now held .machines ≤ length (now (now self .bytes)) ⌝ }
+        requires is { ⌜ recordIn (now held) ≡ recordAt (now held .machines) (now (now self .bytes)) k ⌝ }
+        ensures { λ r. ⌜ Decides r (Before (9 * now (held .entry) .machines) (recordByte (now (held .entry) .machines) (now (now (self .entry) .bytes)) (k - 1)) (recordByte (now (held .entry) .machines) (now (now (self .entry) .bytes)) k)) ⌝ }
+    {
+        is_above(self.bytes, k, held)
+    }
+
     // Whether the record stands in the set.
     pub(crate) fn contains(&self, target: &Held) -> bool
         requires few { ⌜ now target .machines ≤ 6 ⌝ }
@@ -121,7 +132,7 @@ fn byte_of(target: &Held, t: u16) -> u8
 }
 
 // How record `k` of the set compares with another, as byte strings.
-pub(crate) fn compare(set: &[u8], k: u16, target: &Held) -> Ordering
+fn compare(set: &[u8], k: u16, target: &Held) -> Ordering
     requires few { ⌜ now target .machines ≤ 6 ⌝ }
     requires long { ⌜ 16 + 9 * now target .machines * k + 9 * now target .machines ≤ length (now set) ⌝ }
     ensures { λ r. ⌜ Ranked r (Before (9 * now (target .entry) .machines) (recordByte (now (target .entry) .machines) (now (set .entry)) k) (byteOf (recordIn (now (target .entry))))) (Same (9 * now (target .entry) .machines) (recordByte (now (target .entry) .machines) (now (set .entry)) k) (byteOf (recordIn (now (target .entry)))) × ((t : ℕ) → t < 9 * now (target .entry) .machines → codeIn (recordIn (now (target .entry))) (t / 9) < 2 ^ 64)) (Before (9 * now (target .entry) .machines) (byteOf (recordIn (now (target .entry)))) (recordByte (now (target .entry) .machines) (now (set .entry)) k)) ⌝ }
@@ -158,4 +169,19 @@ fn listed(set: &[u8], target: &Held) -> bool
         }
     }
     false
+}
+
+// Whether the record stands above the one before.
+fn is_above(set: &[u8], k: u16, held: &Held) -> bool
+    requires few { ⌜ now held .machines ≤ 6 ⌝ }
+    requires some { ⌜ 0 < k ⌝ }
+    requires long { ⌜ 16 + 9 * now held .machines * (k - 1) + 9 * now held .machines ≤ length (now set) ⌝ }
+    requires is { ⌜ recordIn (now held) ≡ recordAt (now held .machines) (now set) k ⌝ }
+    ensures { λ r. ⌜ Decides r (Before (9 * now (held .entry) .machines) (recordByte (now (held .entry) .machines) (now (set .entry)) (k - 1)) (recordByte (now (held .entry) .machines) (now (set .entry)) k)) ⌝ }
+{
+    match compare(set, k - 1, held) {
+        Ordering::Less => true,
+        Ordering::Equal => false,
+        Ordering::Greater => false,
+    }
 }
