@@ -52,9 +52,9 @@ module _ (T : Claim) (law : Means T) (n k : ℕ) (h : Held) (j : Judging T n k h
     surprise-if b none d =
         let both = surprise-lets T law (recordOf T k) (j .sound) i e lt in
         decides-like b
-          (λ a. both .0 (subst (λ (z : ℕ). Allowed (T .width) (T .code) z (codeIn (recordOf T k) i) (Event e) 0) ev (subst (λ (z : ℕ). Allowed (T .width) (T .code) m z (Event e) 0) is-code a), subst (λ (z : ℕ). NoTake (T .system) i z e) is-local none))
-          (λ a. subst (λ (z : ℕ). Allowed (T .width) (T .code) m z (Event e) 0) (sym is-code) (subst (λ (z : ℕ). Allowed (T .width) (T .code) z (codeIn (recordOf T k) i) (Event e) 0) (sym ev) (both .1 a .0)))
-          d
+        (λ a. both .0 (subst (λ (z : ℕ). Allowed (T .width) (T .code) z (codeIn (recordOf T k) i) (Event e) 0) ev (subst (λ (z : ℕ). Allowed (T .width) (T .code) m z (Event e) 0) is-code a), subst (λ (z : ℕ). NoTake (T .system) i z e) is-local none))
+        (λ a. subst (λ (z : ℕ). Allowed (T .width) (T .code) m z (Event e) 0) (sym is-code) (subst (λ (z : ℕ). Allowed (T .width) (T .code) z (codeIn (recordOf T k) i) (Event e) 0) (sym ev) (both .1 a .0)))
+        d
 
   module _ (proper : WellFormed (T .system)) (p : ℕ) (lt : p < length (T .system .patterns)) where
     pub pattern-if : MayMeet T (recordOf T k) (patternOf (T .system) p) → Applies T (met k p)
@@ -77,7 +77,7 @@ module _ (T : Claim) (law : Means T) (n k : ℕ) (h : Held) (j : Judging T n k h
       pub out-if : (a : Action) → x .action ≡ a → (c : ℕ) (q : Record) → Leads T x a (recordOf T k) c q → (Listed T q → ⊥) → Applies T (outside k r c)
       out-if a e c q l absent =
           subst (λ (z : Rule). Lets T (recordOf T k) (Leaves T (recordOf T k) z c)) is
-            (outside-lets T law (recordOf T k) (j .sound) x x-fits c q from (subst (λ (b : Action). Leads T x b (recordOf T k) c q) (sym e) l) .0 absent)
+          (outside-lets T law (recordOf T k) (j .sound) x x-fits c q from (subst (λ (b : Action). Leads T x b (recordOf T k) c q) (sym e) l) .0 absent)
 
       pub out-not : (a : Action) → x .action ≡ a → (c : ℕ) (q : Record) → Leads T x a (recordOf T k) c q → Listed T q → Applies T (outside k r c) → ⊥
       out-not a e c q l there ap =
@@ -105,12 +105,12 @@ judged-one T k r (Err f) h = record { finding = h .finding; numbered = h .number
 pub judged-rule : (T : Claim) (k r : ℕ) (x : Rule) (a : Action) (res : Result (Unit {0}) Fault) → x ≡ ruleOf (T .system) r → x .action ≡ a → Judged T (each (outcomes T (recordOf T k) x a) (λ c. one (outside k r c))) res → Judged T (outcomesOf T k r) res
 judged-rule T k r x a res e f h =
     subst (λ (z : Rule). Judged T (each (outcomes T (recordOf T k) z (z .action)) (λ c. one (outside k r c))) res) e
-      (subst (λ (b : Action). Judged T (each (outcomes T (recordOf T k) x b) (λ c. one (outside k r c))) res) (sym f) h)
+    (subst (λ (b : Action). Judged T (each (outcomes T (recordOf T k) x b) (λ c. one (outside k r c))) res) (sym f) h)
 
 pub appends-as : (code : ℕ → List ℕ → ℕ) (m n b c e d : ℕ) → m ≡ n → b ≡ c → ((Q : List ℕ) → Over m Q → code m Q ≡ b → code m (Q ++ (e ∷ [])) ≡ d) → (Q : List ℕ) → Over n Q → code n Q ≡ c → code n (Q ++ (e ∷ [])) ≡ d
 appends-as code m n b c e d f g h =
     subst (λ (z : ℕ). (Q : List ℕ) → Over z Q → code z Q ≡ c → code z (Q ++ (e ∷ [])) ≡ d) f
-      (subst (λ (z : ℕ). (Q : List ℕ) → Over m Q → code m Q ≡ z → code m (Q ++ (e ∷ [])) ≡ d) g h)
+    (subst (λ (z : ℕ). (Q : List ℕ) → Over m Q → code m Q ≡ z → code m (Q ++ (e ∷ [])) ≡ d) g h)
 
 -- the rule of a number names what is there
 pub rule-fits : (S : System) → WellFormed S → (r : ℕ) → r < length (S .rules) → (x : Rule) → x ≡ ruleOf S r → RuleFits S x

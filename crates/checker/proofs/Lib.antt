@@ -2,3 +2,4 @@ pub mod Read
 pub mod Ordered
 pub mod Holding
 pub mod Deciding
+pub mod Whole

@@ -17,10 +17,12 @@ use Rattle.table.specs.Bytes.{wordAt}
 
 pub before-trans : (z : ℕ) (f g h : ℕ → ℕ) → Before z f g → Before z g h → Before z f h
 before-trans z f g h (a, la, ea, fa) (b, lb, eb, gb) = elim (cases-lt a b) [
-      inl lt ↦ (a, la, (λ t l. ea t l ∙ eb t (omega arith)), omega (arith, eb a lt))
-      | inr ge ↦ elim (cases-eq a b) [
-            inl e ↦ (a, la, (λ t l. ea t l ∙ eb t (omega arith)), omega (arith, subst (λ (x : ℕ). g x < h x) (sym e) gb))
-            | inr ne ↦ (b, lb, (λ t l. ea t (omega arith) ∙ eb t l), omega (arith, ea b (omega arith))) ] ]
+  | inl lt ↦ (a, la, (λ t l. ea t l ∙ eb t (omega arith)), omega (arith, eb a lt))
+  | inr ge ↦ elim (cases-eq a b) [
+    | inl e ↦ (a, la, (λ t l. ea t l ∙ eb t (omega arith)), omega (arith, subst (λ (x : ℕ). g x < h x) (sym e) gb))
+    | inr ne ↦ (b, lb, (λ t l. ea t (omega arith) ∙ eb t l), omega (arith, ea b (omega arith)))
+  ]
+]
 
 pub before-not : (z : ℕ) (f g : ℕ → ℕ) → Before z f g → Same z f g → ⊥
 before-not z f g (j, l, e, lt) s = omega (arith, s j l)
@@ -34,7 +36,7 @@ module _ (n : ℕ) (bs : List ℕ) (rising : (k : ℕ) → k + 1 < wordAt bs 10 
   steps-on k (suc d) h =
       let e : k + d + 1 + 1 ≡ k + suc d + 1 = omega arith in
       before-trans (9 * n) (recordByte n bs k) (recordByte n bs (k + d + 1)) (recordByte n bs (k + suc d + 1)) (steps-on k d (omega arith))
-        (subst (λ (x : ℕ). Before (9 * n) (recordByte n bs (k + d + 1)) (recordByte n bs x)) e (rising (k + d + 1) (omega arith)))
+      (subst (λ (x : ℕ). Before (9 * n) (recordByte n bs (k + d + 1)) (recordByte n bs x)) e (rising (k + d + 1) (omega arith)))
 
   pub rises : (j k : ℕ) → j < k → k < wordAt bs 10 → Before (9 * n) (recordByte n bs j) (recordByte n bs k)
   rises j k l h =
@@ -104,7 +106,7 @@ module _ (n : ℕ) (bs : List ℕ) (k : ℕ) (r : Record) where
   pub same-record : length r ≡ n → Same (9 * n) (recordByte n bs k) (byteOf r) → ((t : ℕ) → t < 9 * n → codeIn r (t / 9) < 2 ^ 64) → recordAt n bs k ≡ r
   same-record len same small =
       sym (fill-by-all (λ i. (getD bs (16 + 9 * n * k + 9 * i) 0, longAt bs (16 + 9 * n * k + 9 * i + 1))) r n (0, 0) len
-        (λ i h. entry-same i h same (let e : 9 * i / 9 ≡ i = omega arith in subst (λ (z : ℕ). codeIn r z < 2 ^ 64) e (small (9 * i) (omega arith)))))
+      (λ i h. entry-same i h same (let e : 9 * i / 9 ≡ i = omega arith in subst (λ (z : ℕ). codeIn r z < 2 ^ 64) e (small (9 * i) (omega arith)))))
 
   -- a record that is the same has the same bytes
   module _ (bytes : (i : ℕ) → getD bs i 0 < 256) (is : recordAt n bs k ≡ r) where

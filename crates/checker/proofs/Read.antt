@@ -45,11 +45,12 @@ decides-false n = ((λ e. let z : _≡_ {A = ℕ} 0 1 = cc in absurd (omega arit
 pub kept-all : {X : Type 0} (P : X → Type 0) (f : ℕ → X) (t : ℕ → Bool) (a n : ℕ) → All P (map f (kept-by t (counting a n))) → (j : ℕ) → a ≤ j → j < a + n → t j ≡ true → P (f j)
 kept-all P f t a zero all j l u e = absurd (omega arith)
 kept-all P f t a (suc n) all j l u e = elim (cases-eq j a) [
-      inl same ↦ subst (λ (z : ℕ). P (f z)) (sym same) (subst (λ (b : Bool). All P (map f (cond b (a ∷ kept-by t (counting (a + 1) n)) (kept-by t (counting (a + 1) n))))) (ap t (sym same) ∙ e) all .0)
-      | inr ne ↦ kept-all P f t (a + 1) n (rest all) j (omega arith) (omega arith) e ]
+  | inl same ↦ subst (λ (z : ℕ). P (f z)) (sym same) (subst (λ (b : Bool). All P (map f (cond b (a ∷ kept-by t (counting (a + 1) n)) (kept-by t (counting (a + 1) n))))) (ap t (sym same) ∙ e) all .0)
+  | inr ne ↦ kept-all P f t (a + 1) n (rest all) j (omega arith) (omega arith) e
+]
   where
     rest : All P (map f (cond (t a) (a ∷ kept-by t (counting (a + 1) n)) (kept-by t (counting (a + 1) n)))) → All P (map f (kept-by t (counting (a + 1) n)))
     rest h = elim (cases-bool (t a)) [
-          inl e ↦ subst (λ (b : Bool). All P (map f (cond b (a ∷ kept-by t (counting (a + 1) n)) (kept-by t (counting (a + 1) n))))) e h .1
-          | inr e ↦ subst (λ (b : Bool). All P (map f (cond b (a ∷ kept-by t (counting (a + 1) n)) (kept-by t (counting (a + 1) n))))) e h ]
-
+      | inl e ↦ subst (λ (b : Bool). All P (map f (cond b (a ∷ kept-by t (counting (a + 1) n)) (kept-by t (counting (a + 1) n))))) e h .1
+      | inr e ↦ subst (λ (b : Bool). All P (map f (cond b (a ∷ kept-by t (counting (a + 1) n)) (kept-by t (counting (a + 1) n))))) e h
+    ]

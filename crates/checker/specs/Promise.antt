@@ -8,11 +8,12 @@ use Rattle.model.specs.declared.fault.Fault.{Fault}
 use Rattle.model.specs.State.{State}
 use Rattle.model.specs.Steps.{Reaches}
 use Rattle.model.specs.Bad.{Bad}
-use Rattle.model.specs.Order.{Nothing, FirstFault}
+use Rattle.model.specs.Order.{Nothing, FirstFault, _then_}
 use Rattle.table.specs.Reading.{Reads}
 use Rattle.closed_sets.specs.Records.{Claim, Closed, Represented}
-use Rattle.checker.specs.Verdict.{Applies, numbers, order, formOrder}
+use Rattle.checker.specs.Verdict.{Applies, numbers, order, tableOrder, formOrder}
 use Rattle.checker.specs.declared.pass.Pass.{Pass}
+use Rattle.checker.specs.declared.state_set.StateSet.{StateSet}
 
 -- nothing is wrong with the header, the length, the records or their order
 abbrev pub GoodForm : List ℕ → List ℕ → Claim → Type 0
@@ -34,3 +35,8 @@ Safe T = (s : State) → Reaches (T .system) s → Represented T s × (Bad (T .s
 abbrev pub Checked : List ℕ → List ℕ → Claim → Result Pass Fault → Type 0
 Checked table set T (Ok p) = (p .table .bytes .now ≡ table) × (p .capacity ≡ 32) × Passes table set T × Safe T
 Checked table set T (Err f) = (Passes table set T → ⊥) × FirstFault (Applies table set T) (numbers table) (order table set T) f
+
+-- a view of the set exactly where the table reads and the set is in good form; else the fault of the first thing wrong
+abbrev pub SetRead : List ℕ → List ℕ → Claim → Result StateSet Fault → Type 0
+SetRead table set T (Ok v) = (v .bytes .now ≡ set) × Reads table × GoodForm table set T
+SetRead table set T (Err f) = (Reads table → GoodForm table set T → ⊥) × FirstFault (Applies table set T) (numbers table) (tableOrder table then formOrder set) f

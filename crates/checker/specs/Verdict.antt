@@ -81,5 +81,12 @@ formOrder set = under inHeader headerOrder then each (recordsN set) formOf
 abbrev pub closedOrder : Claim → Order Finding
 closedOrder T = one startAbsent then under inRecord (judging.judged T)
 
+abbrev pub setOrder : List ℕ → Claim → Order Finding
+setOrder set T = formOrder set then closedOrder T
+
+abbrev pub tableOrder : List ℕ → Order Finding
+tableOrder table = under inTable (reading.order table)
+
+-- from the first byte of the table to the last removal of the last record
 abbrev pub order : List ℕ → List ℕ → Claim → Order Finding
-order table set T = under inTable (reading.order table) then formOrder set then closedOrder T
+order table set T = tableOrder table then setOrder set T

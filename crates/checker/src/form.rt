@@ -16,8 +16,7 @@ ghost use Rattle.checker.specs.Held.{recordIn};
 ghost use Rattle.checker.specs.Inner.{Formed};
 ghost use Rattle.checker.specs.Ready.{Ready};
 ghost use Rattle.checker.specs.SetFile.{claimOf, recordsN, recordByte, Before, SetReady};
-ghost use Rattle.checker.specs.Verdict.{bounds, field, HeaderApplies, headerNumbers, headerOrder, Applies, numbers, formOf};
-
+ghost use Rattle.checker.specs.Verdict.{bounds, field, HeaderApplies, headerNumbers, headerOrder, Applies, numbers, formOf, formOrder};
 use crate::held::Entry;
 use crate::held::Held;
 use crate::held::entry_at;
@@ -86,7 +85,13 @@ fn entry_sound<A: QueueAbstraction>(table: &Table<'_>, abstraction: &A, i: u8, e
 }
 
 // Whether each machine has the local state that the record gives it, and each code is good.
-fn is_sound<A: QueueAbstraction>(table: &Table<'_>, set: &StateSet<'_>, abstraction: &A, k: u16, held: &Held) -> bool
+fn is_sound<A: QueueAbstraction>(
+    table: &Table<'_>,
+    set: &StateSet<'_>,
+    abstraction: &A,
+    k: u16,
+    held: &Held,
+) -> bool
     requires ready { ⌜ Ready (now (now table .bytes)) ⌝ }
     requires is { ⌜ recordIn (now held) ≡ recordOf (claimOf (now (now table .bytes)) (now (now set .bytes)) (bits (now abstraction)) (code (now abstraction)) (removals (now abstraction))) k ⌝ }
     requires machines { ⌜ now held .machines ≡ machinesN (now (now table .bytes)) ⌝ }
@@ -102,7 +107,12 @@ fn is_sound<A: QueueAbstraction>(table: &Table<'_>, set: &StateSet<'_>, abstract
 }
 
 // The first thing wrong with the form of record `k`.
-fn form_record<A: QueueAbstraction>(table: &Table<'_>, set: &StateSet<'_>, abstraction: &A, k: u16) -> Result<(), Fault>
+fn form_record<A: QueueAbstraction>(
+    table: &Table<'_>,
+    set: &StateSet<'_>,
+    abstraction: &A,
+    k: u16,
+) -> Result<(), Fault>
     requires ready { ⌜ Ready (now (now table .bytes)) ⌝ }
     requires head { ⌜ 16 ≤ length (now (now set .bytes)) ⌝ }
     requires long { ⌜ length (now (now set .bytes)) ≡ 16 + 9 * machinesN (now (now table .bytes)) * recordsN (now (now set .bytes)) ⌝ }
@@ -123,7 +133,11 @@ fn form_record<A: QueueAbstraction>(table: &Table<'_>, set: &StateSet<'_>, abstr
 }
 
 // The first thing wrong with the form of the records.
-fn form_records<A: QueueAbstraction>(table: &Table<'_>, set: &StateSet<'_>, abstraction: &A) -> Result<(), Fault>
+fn form_records<A: QueueAbstraction>(
+    table: &Table<'_>,
+    set: &StateSet<'_>,
+    abstraction: &A,
+) -> Result<(), Fault>
     requires ready { ⌜ Ready (now (now table .bytes)) ⌝ }
     requires head { ⌜ 16 ≤ length (now (now set .bytes)) ⌝ }
     requires long { ⌜ length (now (now set .bytes)) ≡ 16 + 9 * machinesN (now (now table .bytes)) * recordsN (now (now set .bytes)) ⌝ }
@@ -136,11 +150,29 @@ fn form_records<A: QueueAbstraction>(table: &Table<'_>, set: &StateSet<'_>, abst
 }
 
 // Whether the start is represented.
-pub fn has_start<A: QueueAbstraction>(table: &Table<'_>, set: &StateSet<'_>, abstraction: &A) -> bool
+pub fn has_start<A: QueueAbstraction>(
+    table: &Table<'_>,
+    set: &StateSet<'_>,
+    abstraction: &A,
+) -> bool
     requires ready { ⌜ Ready (now (now table .bytes)) ⌝ }
     requires rising { ⌜ SetReady (machinesN (now (now table .bytes))) (now (now set .bytes)) ⌝ }
     ensures { λ r. ⌜ Decides r (Represented (claimOf (now (now (table .entry) .bytes)) (now (now (set .entry) .bytes)) (bits (now (abstraction .entry))) (code (now (abstraction .entry))) (removals (now (abstraction .entry)))) (start (systemOf (now (now (table .entry) .bytes))))) ⌝ }
 {
     let held = uniform(machines(table), abstraction.empty());
     set.contains(&held)
+}
+
+// The first thing wrong with the header or the records of a set.
+pub fn check_form<A: QueueAbstraction>(
+    table: &Table<'_>,
+    set: &StateSet<'_>,
+    abstraction: &A,
+) -> Result<(), Fault>
+    requires ready { ⌜ Ready (now (now table .bytes)) ⌝ }
+    ensures form { λ x. ⌜ Answered (Applies (now (now (table .entry) .bytes)) (now (now (set .entry) .bytes)) (claimOf (now (now (table .entry) .bytes)) (now (now (set .entry) .bytes)) (bits (now (abstraction .entry))) (code (now (abstraction .entry))) (removals (now (abstraction .entry))))) (numbers (now (now (table .entry) .bytes))) (formOrder (now (now (set .entry) .bytes))) x ⌝ }
+    ensures ready { λ x. ⌜ Cases x (λ _. SetReady (machinesN (now (now (table .entry) .bytes))) (now (now (set .entry) .bytes)) × Formed (machinesN (now (now (table .entry) .bytes))) (now (now (set .entry) .bytes)) (claimOf (now (now (table .entry) .bytes)) (now (now (set .entry) .bytes)) (bits (now (abstraction .entry))) (code (now (abstraction .entry))) (removals (now (abstraction .entry))))) (λ _. Unit {0}) ⌝ }
+{
+    check_header(table, set)?;
+    form_records(table, set, abstraction)
 }

@@ -26,7 +26,13 @@ pub fn uniform(machines: u8, number: u64) -> Held
     ensures is { λ r. ⌜ recordIn r ≡ replicate machines (0, number) ⌝ }
     ensures machines { λ r. ⌜ r .machines ≡ machines ⌝ }
 {
-    Held { machines, entries: [Entry { local: 0, code: number }; MOST_MACHINES] }
+    Held {
+        machines,
+        entries: [Entry {
+            local: 0,
+            code: number,
+        }; MOST_MACHINES],
+    }
 }
 
 // What the record says of machine `i`.

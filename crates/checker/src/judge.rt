@@ -7,7 +7,6 @@ ghost use Rattle.closed_sets.specs.Judging.{Judged, ofRecord, judged};
 ghost use Rattle.checker.specs.Inner.{Judging};
 ghost use Rattle.checker.specs.Ready.{Ready};
 ghost use Rattle.checker.specs.SetFile.{claimOf, recordsN, SetReady};
-
 use crate::held::Held;
 use crate::parts::machines;
 use crate::pattern::check_patterns;
@@ -19,7 +18,13 @@ use model::fault::Fault;
 use table::view::Table;
 
 // The first thing found in record `k`.
-fn check_record<A: QueueAbstraction>(table: &Table<'_>, set: &StateSet<'_>, abstraction: &A, k: u16, held: &Held) -> Result<(), Fault>
+fn check_record<A: QueueAbstraction>(
+    table: &Table<'_>,
+    set: &StateSet<'_>,
+    abstraction: &A,
+    k: u16,
+    held: &Held,
+) -> Result<(), Fault>
     requires ready { ⌜ Ready (now (now table .bytes)) ⌝ }
     requires rising { ⌜ SetReady (machinesN (now (now table .bytes))) (now (now set .bytes)) ⌝ }
     requires judging { ⌜ Judging (claimOf (now (now table .bytes)) (now (now set .bytes)) (bits (now abstraction)) (code (now abstraction)) (removals (now abstraction))) (machinesN (now (now table .bytes))) k (now held) ⌝ }
@@ -31,7 +36,11 @@ fn check_record<A: QueueAbstraction>(table: &Table<'_>, set: &StateSet<'_>, abst
 }
 
 // The first thing found in the records.
-pub fn check_records<A: QueueAbstraction>(table: &Table<'_>, set: &StateSet<'_>, abstraction: &A) -> Result<(), Fault>
+pub fn check_records<A: QueueAbstraction>(
+    table: &Table<'_>,
+    set: &StateSet<'_>,
+    abstraction: &A,
+) -> Result<(), Fault>
     requires ready { ⌜ Ready (now (now table .bytes)) ⌝ }
     requires rising { ⌜ SetReady (machinesN (now (now table .bytes))) (now (now set .bytes)) ⌝ }
     requires sound { ⌜ ((k : ℕ) → k < recordsN (now (now set .bytes)) → Sound (claimOf (now (now table .bytes)) (now (now set .bytes)) (bits (now abstraction)) (code (now abstraction)) (removals (now abstraction))) (recordOf (claimOf (now (now table .bytes)) (now (now set .bytes)) (bits (now abstraction)) (code (now abstraction)) (removals (now abstraction))) k)) ⌝ }

@@ -7,7 +7,6 @@ ghost use Rattle.model.specs.Bad.{Takes, NoTake};
 ghost use Rattle.table.specs.Layout.{machinesN, eventsN, rulesN, patternLinesN, patternOffset};
 ghost use Rattle.table.specs.Lines.{patternLineAt};
 ghost use Rattle.table.specs.SystemOf.{systemOf};
-
 use model::rule::Action;
 use model::rule::Rule;
 use table::line::PatternLine;

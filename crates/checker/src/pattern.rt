@@ -11,7 +11,6 @@ ghost use Rattle.closed_sets.specs.Codes.{MayHold};
 ghost use Rattle.checker.specs.Inner.{Judging};
 ghost use Rattle.checker.specs.Ready.{Ready};
 ghost use Rattle.checker.specs.SetFile.{claimOf};
-
 use crate::held::Held;
 use crate::held::entry_at;
 use crate::parts::events;
@@ -34,7 +33,14 @@ fn local_is(named: Option<u8>, local: u8) -> bool
 }
 
 // Whether the record lets a condition hold.
-fn lets_hold<A: QueueAbstraction>(table: &Table<'_>, set: &StateSet<'_>, abstraction: &A, k: u16, held: &Held, condition: Condition) -> bool
+fn lets_hold<A: QueueAbstraction>(
+    table: &Table<'_>,
+    set: &StateSet<'_>,
+    abstraction: &A,
+    k: u16,
+    held: &Held,
+    condition: Condition,
+) -> bool
     requires ready { ⌜ Ready (now (now table .bytes)) ⌝ }
     requires judging { ⌜ Judging (claimOf (now (now table .bytes)) (now (now set .bytes)) (bits (now abstraction)) (code (now abstraction)) (removals (now abstraction))) (machinesN (now (now table .bytes))) k (now held) ⌝ }
     requires below { ⌜ condition .machine < machinesN (now (now table .bytes)) ⌝ }
@@ -48,7 +54,14 @@ fn lets_hold<A: QueueAbstraction>(table: &Table<'_>, set: &StateSet<'_>, abstrac
 }
 
 // Whether the record lets pattern `n` be met.
-fn lets_meet<A: QueueAbstraction>(table: &Table<'_>, set: &StateSet<'_>, abstraction: &A, k: u16, held: &Held, n: u16) -> bool
+fn lets_meet<A: QueueAbstraction>(
+    table: &Table<'_>,
+    set: &StateSet<'_>,
+    abstraction: &A,
+    k: u16,
+    held: &Held,
+    n: u16,
+) -> bool
     requires ready { ⌜ Ready (now (now table .bytes)) ⌝ }
     requires judging { ⌜ Judging (claimOf (now (now table .bytes)) (now (now set .bytes)) (bits (now abstraction)) (code (now abstraction)) (removals (now abstraction))) (machinesN (now (now table .bytes))) k (now held) ⌝ }
     requires below { ⌜ n < patternCount (now (now table .bytes)) ⌝ }
@@ -67,14 +80,25 @@ fn lets_meet<A: QueueAbstraction>(table: &Table<'_>, set: &StateSet<'_>, abstrac
 }
 
 // The first pattern that can be met.
-pub fn check_patterns<A: QueueAbstraction>(table: &Table<'_>, set: &StateSet<'_>, abstraction: &A, k: u16, held: &Held) -> Result<(), Fault>
+pub fn check_patterns<A: QueueAbstraction>(
+    table: &Table<'_>,
+    set: &StateSet<'_>,
+    abstraction: &A,
+    k: u16,
+    held: &Held,
+) -> Result<(), Fault>
     requires ready { ⌜ Ready (now (now table .bytes)) ⌝ }
     requires judging { ⌜ Judging (claimOf (now (now table .bytes)) (now (now set .bytes)) (bits (now abstraction)) (code (now abstraction)) (removals (now abstraction))) (machinesN (now (now table .bytes))) k (now held) ⌝ }
     ensures { λ r. ⌜ Judged (claimOf (now (now (table .entry) .bytes)) (now (now (set .entry) .bytes)) (bits (now (abstraction .entry))) (code (now (abstraction .entry))) (removals (now (abstraction .entry)))) (patterns (claimOf (now (now (table .entry) .bytes)) (now (now (set .entry) .bytes)) (bits (now (abstraction .entry))) (code (now (abstraction .entry))) (removals (now (abstraction .entry)))) k) r ⌝ }
 {
     for n in 0..table.pattern_count() {
         if lets_meet(table, set, abstraction, k, held, n) {
-            return Err(Fault { number: Refusal::PatternMet, a: k as u32, b: n, c: 0 });
+            return Err(Fault {
+                number: Refusal::PatternMet,
+                a: k as u32,
+                b: n,
+                c: 0,
+            });
         }
     }
     Ok(())

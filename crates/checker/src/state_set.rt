@@ -7,7 +7,6 @@ ghost use Rattle.closed_sets.specs.Records.{codeIn};
 ghost use Rattle.checker.specs.Held.{recordIn};
 ghost use Rattle.checker.specs.Inner.{ListedIn};
 ghost use Rattle.checker.specs.SetFile.{recordsN, longAt, recordAt, recordsOf, SetReady, byteIn, byteOf, recordByte, Before, Same};
-
 use crate::held::Entry;
 use crate::held::Held;
 use crate::held::MOST_MACHINES;
@@ -100,10 +99,16 @@ fn load(set: &[u8], n: u8, k: u16) -> Held
     ensures is { λ r. ⌜ recordIn r ≡ recordAt n (now (set .entry)) k ⌝ }
     ensures machines { λ r. ⌜ r .machines ≡ n ⌝ }
 {
-    let mut held = Held { machines: n, entries: [Entry { local: 0, code: 0 }; MOST_MACHINES] };
+    let mut held = Held {
+        machines: n,
+        entries: [Entry { local: 0, code: 0 }; MOST_MACHINES],
+    };
     let start = 16 + 9 * n as usize * k as usize;
     for i in 0..n as usize {
-        held.entries[i] = Entry { local: set[start + 9 * i], code: long(set, start + 9 * i + 1) };
+        held.entries[i] = Entry {
+            local: set[start + 9 * i],
+            code: long(set, start + 9 * i + 1),
+        };
     }
     held
 }

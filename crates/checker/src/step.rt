@@ -15,7 +15,6 @@ ghost use Rattle.checker.specs.Held.{recordIn};
 ghost use Rattle.checker.specs.Inner.{Judging, Enabled, Inside};
 ghost use Rattle.checker.specs.Ready.{Ready};
 ghost use Rattle.checker.specs.SetFile.{claimOf, SetReady, recordsOf};
-
 use crate::held::Entry;
 use crate::held::Held;
 use crate::held::entry_at;
@@ -40,12 +39,25 @@ fn inside(set: &StateSet<'_>, k: u16, r: u16, c: u64, target: &Held) -> Result<(
     if set.contains(target) {
         Ok(())
     } else {
-        Err(Fault { number: Refusal::StepOutside, a: k as u32, b: r, c })
+        Err(Fault {
+            number: Refusal::StepOutside,
+            a: k as u32,
+            b: r,
+            c,
+        })
     }
 }
 
 // The record that the rule leads to, with that code of its own queue.
-fn moved<A: QueueAbstraction>(table: &Table<'_>, set: &StateSet<'_>, abstraction: &A, k: u16, held: &Held, mover: Rule, number: u64) -> Held
+fn moved<A: QueueAbstraction>(
+    table: &Table<'_>,
+    set: &StateSet<'_>,
+    abstraction: &A,
+    k: u16,
+    held: &Held,
+    mover: Rule,
+    number: u64,
+) -> Held
     requires ready { ⌜ Ready (now (now table .bytes)) ⌝ }
     requires judging { ⌜ Judging (claimOf (now (now table .bytes)) (now (now set .bytes)) (bits (now abstraction)) (code (now abstraction)) (removals (now abstraction))) (machinesN (now (now table .bytes))) k (now held) ⌝ }
     requires below { ⌜ mover .machine < machinesN (now (now table .bytes)) ⌝ }
@@ -53,11 +65,26 @@ fn moved<A: QueueAbstraction>(table: &Table<'_>, set: &StateSet<'_>, abstraction
     ensures machines { λ x. ⌜ x .machines ≡ machinesN (now (now (table .entry) .bytes)) ⌝ }
     ensures sized { λ x. ⌜ length (recordIn x) ≡ machinesN (now (now (table .entry) .bytes)) ⌝ }
 {
-    replaced(held, mover.machine, Entry { local: mover.to, code: number })
+    replaced(
+        held,
+        mover.machine,
+        Entry {
+            local: mover.to,
+            code: number,
+        },
+    )
 }
 
 // A local move leads to a record of the set.
-fn check_local<A: QueueAbstraction>(table: &Table<'_>, set: &StateSet<'_>, abstraction: &A, k: u16, held: &Held, r: u16, mover: Rule) -> Result<(), Fault>
+fn check_local<A: QueueAbstraction>(
+    table: &Table<'_>,
+    set: &StateSet<'_>,
+    abstraction: &A,
+    k: u16,
+    held: &Held,
+    r: u16,
+    mover: Rule,
+) -> Result<(), Fault>
     requires ready { ⌜ Ready (now (now table .bytes)) ⌝ }
     requires rising { ⌜ SetReady (machinesN (now (now table .bytes))) (now (now set .bytes)) ⌝ }
     requires judging { ⌜ Judging (claimOf (now (now table .bytes)) (now (now set .bytes)) (bits (now abstraction)) (code (now abstraction)) (removals (now abstraction))) (machinesN (now (now table .bytes))) k (now held) ⌝ }
@@ -66,11 +93,29 @@ fn check_local<A: QueueAbstraction>(table: &Table<'_>, set: &StateSet<'_>, abstr
     ensures { λ x. ⌜ Judged (claimOf (now (now (table .entry) .bytes)) (now (now (set .entry) .bytes)) (bits (now (abstraction .entry))) (code (now (abstraction .entry))) (removals (now (abstraction .entry)))) (one (outside k r 0)) x ⌝ }
 {
     let own = entry_at(held, mover.machine);
-    inside(set, k, r, 0, &moved(table, set, abstraction, k, held, mover, own.code))
+    inside(
+        set,
+        k,
+        r,
+        0,
+        &moved(table, set, abstraction, k, held, mover, own.code),
+    )
 }
 
 // Removal `c` of a take leads to a record of the set, if it takes the rule's event.
-fn take_inside<A: QueueAbstraction>(table: &Table<'_>, set: &StateSet<'_>, abstraction: &A, k: u16, held: &Held, r: u16, taker: Rule, event: u8, c: u64, taken: u8, left: u64) -> Result<(), Fault>
+fn take_inside<A: QueueAbstraction>(
+    table: &Table<'_>,
+    set: &StateSet<'_>,
+    abstraction: &A,
+    k: u16,
+    held: &Held,
+    r: u16,
+    taker: Rule,
+    event: u8,
+    c: u64,
+    taken: u8,
+    left: u64,
+) -> Result<(), Fault>
     requires ready { ⌜ Ready (now (now table .bytes)) ⌝ }
     requires rising { ⌜ SetReady (machinesN (now (now table .bytes))) (now (now set .bytes)) ⌝ }
     requires judging { ⌜ Judging (claimOf (now (now table .bytes)) (now (now set .bytes)) (bits (now abstraction)) (code (now abstraction)) (removals (now abstraction))) (machinesN (now (now table .bytes))) k (now held) ⌝ }
@@ -82,11 +127,26 @@ fn take_inside<A: QueueAbstraction>(table: &Table<'_>, set: &StateSet<'_>, abstr
     if taken != event {
         return Ok(());
     }
-    inside(set, k, r, c, &moved(table, set, abstraction, k, held, taker, left))
+    inside(
+        set,
+        k,
+        r,
+        c,
+        &moved(table, set, abstraction, k, held, taker, left),
+    )
 }
 
 // The first removal by which a take leads outside.
-fn check_take<A: QueueAbstraction>(table: &Table<'_>, set: &StateSet<'_>, abstraction: &A, k: u16, held: &Held, r: u16, taker: Rule, event: u8) -> Result<(), Fault>
+fn check_take<A: QueueAbstraction>(
+    table: &Table<'_>,
+    set: &StateSet<'_>,
+    abstraction: &A,
+    k: u16,
+    held: &Held,
+    r: u16,
+    taker: Rule,
+    event: u8,
+) -> Result<(), Fault>
     requires ready { ⌜ Ready (now (now table .bytes)) ⌝ }
     requires rising { ⌜ SetReady (machinesN (now (now table .bytes))) (now (now set .bytes)) ⌝ }
     requires judging { ⌜ Judging (claimOf (now (now table .bytes)) (now (now set .bytes)) (bits (now abstraction)) (code (now abstraction)) (removals (now abstraction))) (machinesN (now (now table .bytes))) k (now held) ⌝ }
@@ -98,14 +158,36 @@ fn check_take<A: QueueAbstraction>(table: &Table<'_>, set: &StateSet<'_>, abstra
     let own = entry_at(held, taker.machine);
     let mut c = 0;
     while let Some((taken, left)) = abstraction.removal(m, own.code, c) {
-        take_inside(table, set, abstraction, k, held, r, taker, event, c, taken, left)?;
+        take_inside(
+            table,
+            set,
+            abstraction,
+            k,
+            held,
+            r,
+            taker,
+            event,
+            c,
+            taken,
+            left,
+        )?;
         c += 1;
     }
     Ok(())
 }
 
 // A send leads to a record of the set.
-fn check_send<A: QueueAbstraction>(table: &Table<'_>, set: &StateSet<'_>, abstraction: &A, k: u16, held: &Held, r: u16, sender: Rule, event: u8, target: u8) -> Result<(), Fault>
+fn check_send<A: QueueAbstraction>(
+    table: &Table<'_>,
+    set: &StateSet<'_>,
+    abstraction: &A,
+    k: u16,
+    held: &Held,
+    r: u16,
+    sender: Rule,
+    event: u8,
+    target: u8,
+) -> Result<(), Fault>
     requires ready { ⌜ Ready (now (now table .bytes)) ⌝ }
     requires rising { ⌜ SetReady (machinesN (now (now table .bytes))) (now (now set .bytes)) ⌝ }
     requires judging { ⌜ Judging (claimOf (now (now table .bytes)) (now (now set .bytes)) (bits (now abstraction)) (code (now abstraction)) (removals (now abstraction))) (machinesN (now (now table .bytes))) k (now held) ⌝ }
@@ -122,11 +204,31 @@ fn check_send<A: QueueAbstraction>(table: &Table<'_>, set: &StateSet<'_>, abstra
     };
     let next = moved(table, set, abstraction, k, held, sender, own.code);
     let local = entry_at(&next, target).local;
-    inside(set, k, r, 0, &replaced(&next, target, Entry { local, code: longer }))
+    inside(
+        set,
+        k,
+        r,
+        0,
+        &replaced(
+            &next,
+            target,
+            Entry {
+                local,
+                code: longer,
+            },
+        ),
+    )
 }
 
 // The first outcome by which rule `r` leads outside.
-fn check_rule<A: QueueAbstraction>(table: &Table<'_>, set: &StateSet<'_>, abstraction: &A, k: u16, held: &Held, r: u16) -> Result<(), Fault>
+fn check_rule<A: QueueAbstraction>(
+    table: &Table<'_>,
+    set: &StateSet<'_>,
+    abstraction: &A,
+    k: u16,
+    held: &Held,
+    r: u16,
+) -> Result<(), Fault>
     requires ready { ⌜ Ready (now (now table .bytes)) ⌝ }
     requires rising { ⌜ SetReady (machinesN (now (now table .bytes))) (now (now set .bytes)) ⌝ }
     requires judging { ⌜ Judging (claimOf (now (now table .bytes)) (now (now set .bytes)) (bits (now abstraction)) (code (now abstraction)) (removals (now abstraction))) (machinesN (now (now table .bytes))) k (now held) ⌝ }
@@ -141,12 +243,28 @@ fn check_rule<A: QueueAbstraction>(table: &Table<'_>, set: &StateSet<'_>, abstra
     match stepper.action {
         Action::Local => check_local(table, set, abstraction, k, held, r, stepper),
         Action::Take { event } => check_take(table, set, abstraction, k, held, r, stepper, event),
-        Action::Send { event, target } => check_send(table, set, abstraction, k, held, r, stepper, event, target),
+        Action::Send { event, target } => check_send(
+            table,
+            set,
+            abstraction,
+            k,
+            held,
+            r,
+            stepper,
+            event,
+            target,
+        ),
     }
 }
 
 // The first rule that leads outside.
-pub fn check_steps<A: QueueAbstraction>(table: &Table<'_>, set: &StateSet<'_>, abstraction: &A, k: u16, held: &Held) -> Result<(), Fault>
+pub fn check_steps<A: QueueAbstraction>(
+    table: &Table<'_>,
+    set: &StateSet<'_>,
+    abstraction: &A,
+    k: u16,
+    held: &Held,
+) -> Result<(), Fault>
     requires ready { ⌜ Ready (now (now table .bytes)) ⌝ }
     requires rising { ⌜ SetReady (machinesN (now (now table .bytes))) (now (now set .bytes)) ⌝ }
     requires judging { ⌜ Judging (claimOf (now (now table .bytes)) (now (now set .bytes)) (bits (now abstraction)) (code (now abstraction)) (removals (now abstraction))) (machinesN (now (now table .bytes))) k (now held) ⌝ }

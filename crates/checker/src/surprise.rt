@@ -8,7 +8,6 @@ ghost use Rattle.closed_sets.specs.Judging.{Judged, Applies, surprise, surprise
 ghost use Rattle.checker.specs.Inner.{Judging};
 ghost use Rattle.checker.specs.Ready.{Ready};
 ghost use Rattle.checker.specs.SetFile.{claimOf};
-
 use crate::held::Held;
 use crate::held::entry_at;
 use crate::parts::events;
@@ -21,7 +20,15 @@ use model::queue::Front;
 use table::view::Table;
 
 // Whether the record lets machine `i` be surprised by event `e`.
-fn lets_surprise<A: QueueAbstraction>(table: &Table<'_>, set: &StateSet<'_>, abstraction: &A, k: u16, held: &Held, i: u8, e: u8) -> bool
+fn lets_surprise<A: QueueAbstraction>(
+    table: &Table<'_>,
+    set: &StateSet<'_>,
+    abstraction: &A,
+    k: u16,
+    held: &Held,
+    i: u8,
+    e: u8,
+) -> bool
     requires ready { ⌜ Ready (now (now table .bytes)) ⌝ }
     requires judging { ⌜ Judging (claimOf (now (now table .bytes)) (now (now set .bytes)) (bits (now abstraction)) (code (now abstraction)) (removals (now abstraction))) (machinesN (now (now table .bytes))) k (now held) ⌝ }
     requires below { ⌜ i < machinesN (now (now table .bytes)) ⌝ }
@@ -35,7 +42,14 @@ fn lets_surprise<A: QueueAbstraction>(table: &Table<'_>, set: &StateSet<'_>, abs
 }
 
 // The first event that machine `i` can be surprised by.
-fn machine_surprises<A: QueueAbstraction>(table: &Table<'_>, set: &StateSet<'_>, abstraction: &A, k: u16, held: &Held, i: u8) -> Result<(), Fault>
+fn machine_surprises<A: QueueAbstraction>(
+    table: &Table<'_>,
+    set: &StateSet<'_>,
+    abstraction: &A,
+    k: u16,
+    held: &Held,
+    i: u8,
+) -> Result<(), Fault>
     requires ready { ⌜ Ready (now (now table .bytes)) ⌝ }
     requires judging { ⌜ Judging (claimOf (now (now table .bytes)) (now (now set .bytes)) (bits (now abstraction)) (code (now abstraction)) (removals (now abstraction))) (machinesN (now (now table .bytes))) k (now held) ⌝ }
     requires below { ⌜ i < machinesN (now (now table .bytes)) ⌝ }
@@ -43,14 +57,25 @@ fn machine_surprises<A: QueueAbstraction>(table: &Table<'_>, set: &StateSet<'_>,
 {
     for e in 0..events(table) {
         if lets_surprise(table, set, abstraction, k, held, i, e) {
-            return Err(Fault { number: Refusal::Surprise, a: k as u32, b: i as u16, c: e as u64 });
+            return Err(Fault {
+                number: Refusal::Surprise,
+                a: k as u32,
+                b: i as u16,
+                c: e as u64,
+            });
         }
     }
     Ok(())
 }
 
 // The first machine that can be surprised.
-pub fn check_surprises<A: QueueAbstraction>(table: &Table<'_>, set: &StateSet<'_>, abstraction: &A, k: u16, held: &Held) -> Result<(), Fault>
+pub fn check_surprises<A: QueueAbstraction>(
+    table: &Table<'_>,
+    set: &StateSet<'_>,
+    abstraction: &A,
+    k: u16,
+    held: &Held,
+) -> Result<(), Fault>
     requires ready { ⌜ Ready (now (now table .bytes)) ⌝ }
     requires judging { ⌜ Judging (claimOf (now (now table .bytes)) (now (now set .bytes)) (bits (now abstraction)) (code (now abstraction)) (removals (now abstraction))) (machinesN (now (now table .bytes))) k (now held) ⌝ }
     ensures { λ r. ⌜ Judged (claimOf (now (now (table .entry) .bytes)) (now (now (set .entry) .bytes)) (bits (now (abstraction .entry))) (code (now (abstraction .entry))) (removals (now (abstraction .entry)))) (surprises (claimOf (now (now (table .entry) .bytes)) (now (now (set .entry) .bytes)) (bits (now (abstraction .entry))) (code (now (abstraction .entry))) (removals (now (abstraction .entry)))) k) r ⌝ }

@@ -38,6 +38,7 @@ module _ (T : Claim) where
     where
       both : (Q : List ℕ) (s : State) → T .code (T .system .events) Q ≡ c → codes T s ≡ r → codes T ((l, Q) ∷ s) ≡ (l, c) ∷ r
       both Q s e f = ap (λ (z : ℕ). (l, z) ∷ codes T s) e ∙ ap (λ (z : Record). (l, c) ∷ z) f
+
       overs : (Q : List ℕ) (s : State) → Over (T .system .events) Q → ((i : ℕ) → i < length r → Over (T .system .events) (queueAt s i)) → (i : ℕ) → i < suc (length r) → Over (T .system .events) (queueAt ((l, Q) ∷ s) i)
       overs Q s o f zero h = o
       overs Q s o f (suc i) h = f i (omega arith)
@@ -48,18 +49,22 @@ module _ (T : Claim) where
         let f = filled r (λ i h. sound .good i (omega (arith, sound .entries))) in
         let s = f .0 in
         let long = as-long s r (f .1) in
-        let en = sound .entries in
-        (s, record {
-              entries = long ∙ en;
-              locals = λ i h. subst (λ (z : ℕ). z < statesOf (T .system) i) (sym (local-is s r i (f .1) (omega arith))) (sound .locals i h);
-              queues = λ i h. f .2 i (omega arith) },
-          f .1)
+        let en = sound .entries in (
+          s,
+          record {
+            entries = long ∙ en;
+            locals = λ i h. subst (λ (z : ℕ). z < statesOf (T .system) i) (sym (local-is s r i (f .1) (omega arith))) (sound .locals i h);
+            queues = λ i h. f .2 i (omega arith);
+          },
+          f .1,
+        )
 
     pub requeued : (s : State) (i : ℕ) (Q : List ℕ) → IsState (T .system) s → codes T s ≡ r → i < machines (T .system) → Over (T .system .events) Q → T .code (T .system .events) Q ≡ codeIn r i → IsState (T .system) (set s i (localAt s i, Q)) × (codes T (set s i (localAt s i, Q)) ≡ r)
     requeued s i Q is e h o q =
-        let ls : i < length s = omega (arith, is .entries) in
-        (is-set (T .system) s i _ Q is h (is .locals i h) o,
-          map-set-same (λ (x : ℕ × List ℕ). (x .0, T .code (T .system .events) (x .1))) s i (localAt s i, Q) (0, []) (ap (λ (z : ℕ). (localAt s i, z)) (q ∙ sym (code-is s r i e ls))) ∙ e)
+        let ls : i < length s = omega (arith, is .entries) in (
+          is-set (T .system) s i _ Q is h (is .locals i h) o,
+          map-set-same (λ (x : ℕ × List ℕ). (x .0, T .code (T .system .events) (x .1))) s i (localAt s i, Q) (0, []) (ap (λ (z : ℕ). (localAt s i, z)) (q ∙ sym (code-is s r i e ls))) ∙ e,
+        )
 
     pub queue-set : (s : State) (i l : ℕ) (Q : List ℕ) → IsState (T .system) s → i < machines (T .system) → queueAt (set s i (l, Q)) i ≡ Q
     queue-set s i l Q is h = ap (λ (x : ℕ × List ℕ). x .1) (getD-set-same s i (l, Q) (0, []) (omega (arith, is .entries)))

@@ -35,24 +35,28 @@ closed-holds T p c s r = let b = within T p c s r in (b .1, c .safe s (b .0) (b 
 
 same-pair : (a b : ℕ × ℕ) → (a ≡ b) ⊎ (a ≡ b → ⊥)
 same-pair (a, x) (b, y) = elim (cases-eq a b) [
-      inl e ↦ elim (cases-eq x y) [ inl f ↦ inl (cc) | inr n ↦ inr (λ h. n (ap (λ (z : ℕ × ℕ). z .1) h)) ]
-      | inr n ↦ inr (λ h. n (ap (λ (z : ℕ × ℕ). z .0) h)) ]
+  | inl e ↦ elim (cases-eq x y) [ inl f ↦ inl (cc) | inr n ↦ inr (λ h. n (ap (λ (z : ℕ × ℕ). z .1) h)) ]
+  | inr n ↦ inr (λ h. n (ap (λ (z : ℕ × ℕ). z .0) h))
+]
 
 pub same-record : (r q : Record) → (r ≡ q) ⊎ (r ≡ q → ⊥)
 same-record [] [] = inl refl
 same-record [] (y ∷ q) = inr (λ h. let z : _≡_ {A = ℕ} 0 1 = cc in omega arith)
 same-record (x ∷ r) [] = inr (λ h. let z : _≡_ {A = ℕ} 0 1 = cc in omega arith)
 same-record (x ∷ r) (y ∷ q) = elim (same-pair x y) [
-      inl e ↦ elim (same-record r q) [ inl f ↦ inl (cc) | inr n ↦ inr (λ h. n (cc)) ]
-      | inr n ↦ inr (λ h. n (cc)) ]
+  | inl e ↦ elim (same-record r q) [ inl f ↦ inl (cc) | inr n ↦ inr (λ h. n (cc)) ]
+  | inr n ↦ inr (λ h. n (cc))
+]
 
 among : (rs : List Record) (q : Record) → ((k : ℕ) × (k < length rs) × (getD rs k [] ≡ q)) ⊎ (((k : ℕ) × (k < length rs) × (getD rs k [] ≡ q)) → ⊥)
 among [] q = inr (λ h. omega (arith, h .1))
 among (r ∷ rs) q = elim (same-record r q) [
-      inl e ↦ inl (0, omega arith, e)
-      | inr n ↦ elim (among rs q) [
-            inl h ↦ inl (suc (h .0), omega (arith, h .1), h .2)
-            | inr m ↦ inr (λ h. later (h .0) n m (h .1) (h .2)) ] ]
+  | inl e ↦ inl (0, omega arith, e)
+  | inr n ↦ elim (among rs q) [
+    | inl h ↦ inl (suc (h .0), omega (arith, h .1), h .2)
+    | inr m ↦ inr (λ h. later (h .0) n m (h .1) (h .2))
+  ]
+]
   where
     later : (k : ℕ) → (r ≡ q → ⊥) → (((k : ℕ) × (k < length rs) × (getD rs k [] ≡ q)) → ⊥) → k < length (r ∷ rs) → getD (r ∷ rs) k [] ≡ q → ⊥
     later zero n m l e = n e
@@ -69,7 +73,7 @@ code-at T s i h = ap (λ (x : ℕ × ℕ). x .1) (entry-at T s i h)
 
 module _ (T : Claim) (law : Means T) (p : WellFormed (T .system)) (sound : Sound-all T) where
   outcome : (k r : ℕ) (s t : State) → IsState (T .system) s → k < length (T .records) → recordOf T k ≡ codes T s → r < length (T .system .rules) → (a : Action) → Acts a (ruleOf (T .system) r) s t
-    → (c : ℕ) × (c < outcomes T (recordOf T k) (ruleOf (T .system) r) a) × Numbered T a (recordOf T k) (ruleOf (T .system) r .machine) t c
+      → (c : ℕ) × (c < outcomes T (recordOf T k) (ruleOf (T .system) r) a) × Numbered T a (recordOf T k) (ruleOf (T .system) r .machine) t c
   outcome k r s t is lk e lr Local h = (0, omega arith, refl)
   outcome k r s t is lk e lr (Send v d) h = (0, omega arith, refl)
   outcome k r s t is lk e lr (Take v) (Q, q, h) =
@@ -87,9 +91,10 @@ module _ (T : Claim) (law : Means T) (p : WellFormed (T .system)) (sound : Sound
   module _ (none : Nothing (Applies T) (judged T)) where
     stays : (s t : State) → IsState (T .system) s → Represented T s → Step (T .system) s t → Represented T t
     stays s t is (k, lk, e) (r, lr, m) = elim (listed T (codes T t)) [
-          inl h ↦ h
-          | inr n ↦ (let o = outcome k r s t is lk e lr (ruleOf (T .system) r .action) (m .1) in
-              absurd (none k lk .1 .1 r lr (o .0) (o .1) (record { state = s; is = is; coded = sym e; so = record { to = t; makes = m; numbered = o .2; out = n } }))) ]
+      | inl h ↦ h
+      | inr n ↦ (let o = outcome k r s t is lk e lr (ruleOf (T .system) r .action) (m .1) in
+          absurd (none k lk .1 .1 r lr (o .0) (o .1) (record { state = s; is = is; coded = sym e; so = record { to = t; makes = m; numbered = o .2; out = n } })))
+    ]
 
     safe : (s : State) → IsState (T .system) s → Represented T s → Bad (T .system) s → ⊥
     safe s is (k, lk, e) (inl (i, v, b)) =
@@ -101,7 +106,10 @@ pub found-nothing : Found-nothing
 found-nothing T law p sound st none = record { begins = st; safe = safe T law p sound none; stays = stays T law p sound none }
 
 pub closed-nothing : Closed-nothing
-closed-nothing T c k lk =
-    ( (λ i li e le lets. c .safe (lets .state) (lets .is) (k, lk, sym (lets .coded)) (inl (i, e, lets .so))),
-      ((λ q lq lets. c .safe (lets .state) (lets .is) (k, lk, sym (lets .coded)) (inr (q, lq, lets .so))),
-      (λ r lr o lo lets. lets .so .out (c .stays (lets .state) (lets .so .to) (lets .is) (k, lk, sym (lets .coded)) (r, lr, lets .so .makes)))) )
+closed-nothing T c k lk = (
+  (λ i li e le lets. c .safe (lets .state) (lets .is) (k, lk, sym (lets .coded)) (inl (i, e, lets .so))),
+  (
+    (λ q lq lets. c .safe (lets .state) (lets .is) (k, lk, sym (lets .coded)) (inr (q, lq, lets .so))),
+    (λ r lr o lo lets. lets .so .out (c .stays (lets .state) (lets .so .to) (lets .is) (k, lk, sym (lets .coded)) (r, lr, lets .so .makes))),
+  ),
+)

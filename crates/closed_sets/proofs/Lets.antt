@@ -44,21 +44,24 @@ module _ (T : Claim) (r : Record) (sound : Sound T r) where
         state = s;
         is = re .0;
         coded = re .1;
-        so = record { machine = h; rest = b .0; front = queue-set T r sound (s0 .0) i (localAt (s0 .0) i) Q (s0 .1) h ∙ b .1; no-take = subst (λ (l : ℕ). NoTake (T .system) i l e) (sym (local-is T s r i (re .1) len)) none } }
+        so = record { machine = h; rest = b .0; front = queue-set T r sound (s0 .0) i (localAt (s0 .0) i) Q (s0 .1) h ∙ b .1; no-take = subst (λ (l : ℕ). NoTake (T .system) i l e) (sym (local-is T s r i (re .1) len)) none };
+      }
 
   surprise-from : (i e : ℕ) → i < machines (T .system) → Lets T r (λ s. Surprised (T .system) s i e) → MaySurprise T r i e
   surprise-from i e h lets =
       let s = lets .state in
-      let len : i < length s = omega (arith, lets .is .entries) in
-      ( record { valid = sound .good i h .valid; queue = queueAt s i; over = lets .is .queues i h; coded = code-is T s r i (lets .coded) len; begins = subst (Begins (Event e)) (sym (lets .so .front)) refl; covers = covers-zero (queueAt s i) },
-        subst (λ (l : ℕ). NoTake (T .system) i l e) (local-is T s r i (lets .coded) len) (lets .so .no-take) )
+      let len : i < length s = omega (arith, lets .is .entries) in (
+        record { valid = sound .good i h .valid; queue = queueAt s i; over = lets .is .queues i h; coded = code-is T s r i (lets .coded) len; begins = subst (Begins (Event e)) (sym (lets .so .front)) refl; covers = covers-zero (queueAt s i) },
+        subst (λ (l : ℕ). NoTake (T .system) i l e) (local-is T s r i (lets .coded) len) (lets .so .no-take),
+      )
 
   kept : (s : State) (i : ℕ) (v : ℕ × List ℕ) (low : ℕ) (p : List Condition) → i < low → Ordered (machines (T .system)) low p → Met s p → Met (set s i v) p
   kept s i v low [] h rise m = tt
   kept s i v low (c ∷ p) h rise m =
-      let ne : c .machine ≢ i = (λ e. omega (arith, rise .0)) in
-      (subst (λ (x : ℕ × List ℕ). LocalIs (c .local) (x .0) × Begins (c .front) (x .1) × Covers (c .mask) (x .1)) (sym (getD-set-other s i (c .machine) v (0, []) ne)) (m .0),
-        kept s i v (suc (c .machine)) p (omega (arith, rise .0)) (rise .2) (m .1))
+      let ne : c .machine ≢ i = (λ e. omega (arith, rise .0)) in (
+        subst (λ (x : ℕ × List ℕ). LocalIs (c .local) (x .0) × Begins (c .front) (x .1) × Covers (c .mask) (x .1)) (sym (getD-set-other s i (c .machine) v (0, []) ne)) (m .0),
+        kept s i v (suc (c .machine)) p (omega (arith, rise .0)) (rise .2) (m .1),
+      )
 
   meets : (low : ℕ) (p : List Condition) → Ordered (machines (T .system)) low p → MayMeet T r p → (s : State) × IsState (T .system) s × (codes T s ≡ r) × Met s p
   meets low [] rise m = let s0 = chosen T r sound in (s0 .0, s0 .1, s0 .2, tt)
@@ -70,25 +73,34 @@ module _ (T : Claim) (r : Record) (sound : Sound T r) where
       let s = set (s0 .0) i v in
       let re = requeued T r sound (s0 .0) i Q (s0 .1) (s0 .2) (rise .1) (h .1 .over) (h .1 .coded) in
       let len : i < length s = omega (arith, re .0 .entries, rise .1) in
-      let q = sym (queue-set T r sound (s0 .0) i (localAt (s0 .0) i) Q (s0 .1) (rise .1)) in
-      (s, re .0, re .1,
-        ( (subst (LocalIs (c .local)) (sym (local-is T s r i (re .1) len)) (h .0), subst (Begins (c .front)) q (h .1 .begins), subst (Covers (c .mask)) q (h .1 .covers)),
-          kept (s0 .0) i v (suc i) p (omega arith) (rise .2) (s0 .3) ))
+      let q = sym (queue-set T r sound (s0 .0) i (localAt (s0 .0) i) Q (s0 .1) (rise .1)) in (
+        s,
+        re .0,
+        re .1,
+        (
+          (subst (LocalIs (c .local)) (sym (local-is T s r i (re .1) len)) (h .0), subst (Begins (c .front)) q (h .1 .begins), subst (Covers (c .mask)) q (h .1 .covers)),
+          kept (s0 .0) i v (suc i) p (omega arith) (rise .2) (s0 .3),
+        ),
+      )
 
   met-from : (s : State) → IsState (T .system) s → codes T s ≡ r → (low : ℕ) (p : List Condition) → Ordered (machines (T .system)) low p → Met s p → MayMeet T r p
   met-from s is e low [] rise m = tt
   met-from s is e low (c ∷ p) rise m =
       let i = c .machine in
-      let len : i < length s = omega (arith, is .entries, rise .1) in
-      ( (subst (LocalIs (c .local)) (local-is T s r i e len) (m .0 .0),
-          record { valid = sound .good i (rise .1) .valid; queue = queueAt s i; over = is .queues i (rise .1); coded = code-is T s r i e len; begins = m .0 .1; covers = m .0 .2 }),
-        met-from s is e (suc i) p (rise .2) (m .1) )
+      let len : i < length s = omega (arith, is .entries, rise .1) in (
+        (
+          subst (LocalIs (c .local)) (local-is T s r i e len) (m .0 .0),
+          record { valid = sound .good i (rise .1) .valid; queue = queueAt s i; over = is .queues i (rise .1); coded = code-is T s r i e len; begins = m .0 .1; covers = m .0 .2 },
+        ),
+        met-from s is e (suc i) p (rise .2) (m .1),
+      )
 
 pub surprise-lets : Surprise-lets
 surprise-lets T law r sound i e h = (surprise-to T r sound i e h, surprise-from T r sound i e h)
 
 pub pattern-lets : Pattern-lets
 pattern-lets T law r sound p fits =
-    let rise = ordered (T .system) 0 p (fits .fit) (fits .rise) in
-    ( (λ m. let x = meets T r sound 0 p rise m in record { state = x .0; is = x .1; coded = x .2; so = x .3 }),
-      (λ l. met-from T r sound (l .state) (l .is) (l .coded) 0 p rise (l .so)) )
+    let rise = ordered (T .system) 0 p (fits .fit) (fits .rise) in (
+      (λ m. let x = meets T r sound 0 p rise m in record { state = x .0; is = x .1; coded = x .2; so = x .3 }),
+      (λ l. met-from T r sound (l .state) (l .is) (l .coded) 0 p rise (l .so)),
+    )

@@ -10,7 +10,9 @@ use std::rt::Files;
 // The first bytes of a file, one more than `most` at the most.
 fn first_bytes<R: Files + Alloc<A = Global>>(rt: &R, path: &str, most: u64) -> io::Result<Vec<u8>> {
     let mut bytes = Vec::new(rt.alloc());
-    File::open(rt, path)?.take(most.saturating_add(1)).read_to_end(&mut bytes)?;
+    File::open(rt, path)?
+        .take(most.saturating_add(1))
+        .read_to_end(&mut bytes)?;
     Ok(bytes)
 }
 

@@ -34,7 +34,6 @@ pub struct Fault {
     pub c: u64,
 }
 
-
 impl Refusal {
     // The number that the refusal is known by.
     pub fn number(self) -> u8

@@ -38,16 +38,16 @@ module _ (bs : List ℕ) (reads : Reads bs) where
   field-in : (i : ℕ) → i < 8 → OutOfBounds bs (bounds bs) i → ⊥
   field-in = reads .0 .1 .0
 
-  some-machines : 1 ≤ machinesN bs
+  pub some-machines : 1 ≤ machinesN bs
   some-machines = elim (cases-lt (machinesN bs) 1) [ inl lt ↦ absurd (field-in 1 (omega arith) (inl lt)) | inr ge ↦ ge ]
 
-  few-machines : machinesN bs ≤ 6
+  pub few-machines : machinesN bs ≤ 6
   few-machines = elim (cases-lt 6 (machinesN bs)) [ inl lt ↦ absurd (field-in 1 (omega arith) (inr lt)) | inr ge ↦ ge ]
 
-  some-events : 1 ≤ eventsN bs
+  pub some-events : 1 ≤ eventsN bs
   some-events = elim (cases-lt (eventsN bs) 1) [ inl lt ↦ absurd (field-in 2 (omega arith) (inl lt)) | inr ge ↦ ge ]
 
-  few-events : eventsN bs ≤ 8
+  pub few-events : eventsN bs ≤ 8
   few-events = elim (cases-lt 8 (eventsN bs)) [ inl lt ↦ absurd (field-in 2 (omega arith) (inr lt)) | inr ge ↦ ge ]
 
   pub few-rules : rulesN bs ≤ 256
@@ -105,6 +105,9 @@ module _ (bs : List ℕ) (reads : Reads bs) where
 
   line-good : (l : ℕ) → l < patternLinesN bs → (GoodPatternAt bs l (patternOffset bs l) → ⊥) → ⊥
   line-good = reads .1 .1 .1
+
+  pub line-machine : (l : ℕ) → l < patternLinesN bs → byteAt bs (patternOffset bs l + 1) < machinesN bs
+  line-machine l h = stable-lt (byteAt bs (patternOffset bs l + 1)) (machinesN bs) (part (λ q. q .1 .0) (line-good l h))
 
   local-fits : (n l : ℕ) → (((l < n) ⊎ (l ≡ 255) → ⊥) → ⊥) → LocalFits n (localOf l)
   local-fits n l good = elim (cases-eq l 255) [

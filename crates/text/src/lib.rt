@@ -19,7 +19,10 @@ pub impl fmt::Display for InWords<'_> as InWordsDisplay {
         let machines = table.machine_count();
         let rules = table.rule_count();
         let patterns = table.pattern_count();
-        writeln!(f, "events: {events}, machines: {machines}, rules: {rules}, patterns: {patterns}")?;
+        writeln!(
+            f,
+            "events: {events}, machines: {machines}, rules: {rules}, patterns: {patterns}"
+        )?;
         write_machines(&table, f)?;
         write_rules(&table, f)?;
         write_patterns(&table, f)
@@ -53,7 +56,10 @@ fn write_rule<W: fmt::Write>(rule: Rule, f: &mut fmt::Formatter<W>) -> fmt::Resu
     match rule.action {
         Action::Local => writeln!(f, ""),
         Action::Take { event } => writeln!(f, " and takes event {event}"),
-        Action::Send { event, target } => writeln!(f, " and sends event {event} to machine {target}"),
+        Action::Send { event, target } => writeln!(
+            f,
+            " and sends event {event} to machine {target}"
+        ),
     }
 }
 

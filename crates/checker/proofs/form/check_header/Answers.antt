@@ -19,7 +19,7 @@ returns-in-Break-check-header-fields c =
     let long : length (c .args .set .now .bytes .now) < 16 → ⊥ = (λ l. omega (arith, ap length (c .bytes-bytes .ensures))) in
     let e = err-from-errBy (c .from-residual .result) (c .from-residual .ensures .1) in
     rw (e .1, e .2) (answered-after A headerNumbers (one short) (under field fields then one wrongLength) (Err _) long
-      (answered-first A headerNumbers (under field fields) (one wrongLength) _ (c .in-Break-check-header-fields .ensures tt)))
+    (answered-first A headerNumbers (under field fields) (one wrongLength) _ (c .in-Break-check-header-fields .ensures tt)))
 
 pub returns-then-bytes-record-length : need.returns-then-bytes-record-length
 returns-then-bytes-record-length c =

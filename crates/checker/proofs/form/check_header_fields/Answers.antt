@@ -15,4 +15,4 @@ returns c =
     let r = c .check-fields .result in
     let read = subst (λ (b : List ℕ). Answered (OutOfBounds b (c .header-bounds .result)) (λ i. faultAt SetHeader (2 * i)) fields r) (c .bytes .ensures) (c .check-fields .ensures) in
     answered-under (HeaderApplies table set) headerNumbers field fields r
-      (subst (λ (b : List (ℕ × ℕ)). Answered (OutOfBounds set b) (λ i. faultAt SetHeader (2 * i)) fields r) (c .header-bounds .ensures) read)
+    (subst (λ (b : List (ℕ × ℕ)). Answered (OutOfBounds set b) (λ i. faultAt SetHeader (2 * i)) fields r) (c .header-bounds .ensures) read)

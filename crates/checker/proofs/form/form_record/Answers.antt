@@ -31,7 +31,8 @@ is-sound-requires g c κs =
       ready = c .pre .ready;
       is = e ∙ sym (record-at n bs (c .args .k) (c .pre .below));
       machines = c .record-held .ensures .machines ∙ c .machines .ensures;
-      sized = ap length e ∙ record-long n bs (c .args .k) }
+      sized = ap length e ∙ record-long n bs (c .args .k);
+    }
 
 pub returns-then-not-is-sound : need.returns-then-not-is-sound
 returns-then-not-is-sound g c = record { finding = recordParts (c .args .k); numbered = c .fault-at .ensures; first = inl (refl, not-from-decides _ (c .is-sound .ensures) (c .if-not-is-sound .taken)) }
@@ -47,7 +48,8 @@ stands-above-requires g c κs =
       few = omega (arith, m, c .pre .ready .few);
       some = omega arith;
       long = subst (λ (z : ℕ). 16 + 9 * z * (k - 1) + 9 * z ≤ length bs) (sym m) in-set;
-      is = c .record-held .ensures .is ∙ ap (λ (z : ℕ). recordAt z bs k) (sym (c .record-held .ensures .machines)) }
+      is = c .record-held .ensures .is ∙ ap (λ (z : ℕ). recordAt z bs k) (sym (c .record-held .ensures .machines));
+    }
 
 pub returns-then-not-stands-above : need.returns-then-not-stands-above
 returns-then-not-stands-above g c =
@@ -55,9 +57,15 @@ returns-then-not-stands-above g c =
     let n = machinesN (c .args .table .now .bytes .now) in
     let m : c .record-held .result .machines ≡ n = c .record-held .ensures .machines ∙ c .machines .ensures in
     let k = c .args .k in
-    record { finding = recordOrder k; numbered = c .fault-at-then-not-stands-above .ensures; first =
-      inr ((λ no. no (c .is-sound .ensures .0 (c .if-not-is-sound .left))),
-        (refl, (omega arith, subst (λ (z : ℕ). Before (9 * z) (recordByte z bs (k - 1)) (recordByte z bs k) → ⊥) m (not-from-decides _ (c .stands-above .ensures) (c .if-not-stands-above .taken))))) }
+    record {
+      finding = recordOrder k;
+      numbered = c .fault-at-then-not-stands-above .ensures;
+      first =
+          inr (
+            (λ no. no (c .is-sound .ensures .0 (c .if-not-is-sound .left))),
+            (refl, (omega arith, subst (λ (z : ℕ). Before (9 * z) (recordByte z bs (k - 1)) (recordByte z bs k) → ⊥) m (not-from-decides _ (c .stands-above .ensures) (c .if-not-stands-above .taken)))),
+          );
+    }
 
 pub returns : need.returns
 returns g c =

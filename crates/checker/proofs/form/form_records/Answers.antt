@@ -23,4 +23,5 @@ returns g c =
     let bs = c .args .set .now .bytes .now in
     record {
       sound = λ k l. c .loop-k .inv k (omega (arith, c .record-count-k-end .ensures)) .0;
-      rising = λ k l. (let e : k + 1 - 1 ≡ k = omega arith in subst (λ (z : ℕ). Before (9 * n) (recordByte n bs z) (recordByte n bs (k + 1))) e (c .loop-k .inv (k + 1) (omega (arith, c .record-count-k-end .ensures)) .1 (omega arith))) }
+      rising = λ k l. (let e : k + 1 - 1 ≡ k = omega arith in subst (λ (z : ℕ). Before (9 * n) (recordByte n bs z) (recordByte n bs (k + 1))) e (c .loop-k .inv (k + 1) (omega (arith, c .record-count-k-end .ensures)) .1 (omega arith)));
+    }

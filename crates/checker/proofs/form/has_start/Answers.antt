@@ -22,7 +22,8 @@ contains-requires g c κs =
     record {
       few = omega (arith, m, c .machines .ensures, c .pre .ready .few);
       sized = ap length (c .uniform-held .ensures .is) ∙ length-replicate (c .machines .result) _ ∙ sym m;
-      ready = subst (λ (z : ℕ). SetReady z (c .args .set .now .bytes .now)) (sym (m ∙ c .machines .ensures)) (c .pre .rising) }
+      ready = subst (λ (z : ℕ). SetReady z (c .args .set .now .bytes .now)) (sym (m ∙ c .machines .ensures)) (c .pre .rising);
+    }
 
 pub returns : need.returns
 returns g c =
@@ -32,9 +33,9 @@ returns g c =
     let T = claimOf bs (c .args .set .now .bytes .now) (q .bits p) (q .code p) (q .removals p) in
     let law = g .A·QueueAbstraction·met .meaning p in
     let e : recordIn (c .uniform-held .result) ≡ codes T (start (systemOf bs)) =
-        c .uniform-held .ensures .is
-        ∙ ap (λ (z : ℕ). replicate (c .machines .result) (0, z)) (c .empty .ensures ∙ sym (law .start (eventsN bs)))
-        ∙ ap (λ (z : ℕ). replicate z (0, q .code p (eventsN bs) [])) (c .machines .ensures ∙ sym (machines-long bs))
-        ∙ sym (map-replicate (λ (x : ℕ × List ℕ). (x .0, q .code p (eventsN bs) (x .1))) (machines (systemOf bs)) (0, [])) in
+    c .uniform-held .ensures .is
+    ∙ ap (λ (z : ℕ). replicate (c .machines .result) (0, z)) (c .empty .ensures ∙ sym (law .start (eventsN bs)))
+    ∙ ap (λ (z : ℕ). replicate z (0, q .code p (eventsN bs) [])) (c .machines .ensures ∙ sym (machines-long bs))
+    ∙ sym (map-replicate (λ (x : ℕ × List ℕ). (x .0, q .code p (eventsN bs) (x .1))) (machines (systemOf bs)) (0, [])) in
     subst (λ (z : Record). Decides (c .contains .result) (ListedIn (recordsOf (machinesN bs) (c .args .set .now .bytes .now)) z)) e
-      (subst (λ (z : ℕ). Decides (c .contains .result) (ListedIn (recordsOf z (c .args .set .now .bytes .now)) (recordIn (c .uniform-held .result)))) (c .uniform-held .ensures .machines ∙ c .machines .ensures) (c .contains .ensures))
+    (subst (λ (z : ℕ). Decides (c .contains .result) (ListedIn (recordsOf z (c .args .set .now .bytes .now)) (recordIn (c .uniform-held .result)))) (c .uniform-held .ensures .machines ∙ c .machines .ensures) (c .contains .ensures))

@@ -21,9 +21,10 @@ returns-then-not-entry-sound g c =
     let i = c .loop-i .i in
     let e = c .entry-at .ensures ∙ ap (λ (z : Record). getD z i (0, 0)) (c .pre .is) in
     let lt : i < machines (systemOf bs) = omega (arith, machines-long bs, c .pre .machines) in
-    decides-false (λ s. not-from-decides _ (c .entry-sound .ensures) (c .if-not-entry-sound .taken)
-      ( subst (λ (z : ℕ × ℕ). z .0 < statesOf (systemOf bs) i) (sym e) (s .locals i lt),
-        subst (λ (z : ℕ × ℕ). Good (q .bits p) (q .code p) (eventsN bs) (z .1)) (sym e) (s .good i lt) ))
+    decides-false (λ s. not-from-decides _ (c .entry-sound .ensures) (c .if-not-entry-sound .taken) (
+      subst (λ (z : ℕ × ℕ). z .0 < statesOf (systemOf bs) i) (sym e) (s .locals i lt),
+      subst (λ (z : ℕ × ℕ). Good (q .bits p) (q .code p) (eventsN bs) (z .1)) (sym e) (s .good i lt),
+    ))
 
 pub returns : need.returns
 returns g c =
@@ -33,6 +34,7 @@ returns g c =
     let h = recordIn (c .args .held .now) in
     let at : (i : ℕ) → i < machines (systemOf bs) → (localIn h i < statesOf (systemOf bs) i) × Good (q .bits p) (q .code p) (eventsN bs) (codeIn h i) = (λ i l. c .loop-i .inv i (omega (arith, machines-long bs, c .pre .machines))) in
     decides-true (record {
-        entries = ap length (sym (c .pre .is)) ∙ c .pre .sized ∙ sym (machines-long bs);
-        locals = λ i l. subst (λ (z : Record). localIn z i < statesOf (systemOf bs) i) (c .pre .is) (at i l .0);
-        good = λ i l. subst (λ (z : Record). Good (q .bits p) (q .code p) (eventsN bs) (codeIn z i)) (c .pre .is) (at i l .1) })
+      entries = ap length (sym (c .pre .is)) ∙ c .pre .sized ∙ sym (machines-long bs);
+      locals = λ i l. subst (λ (z : Record). localIn z i < statesOf (systemOf bs) i) (c .pre .is) (at i l .0);
+      good = λ i l. subst (λ (z : Record). Good (q .bits p) (q .code p) (eventsN bs) (codeIn z i)) (c .pre .is) (at i l .1);
+    })

@@ -29,4 +29,4 @@ returns g c =
     let p = c .args .abstraction .now in
     let T = claimOf (c .args .table .now .bytes .now) (c .args .set .now .bytes .now) (q .bits p) (q .code p) (q .removals p) in
     answered-after (Applies T) numbers (surprises T (c .args .k)) (patterns T (c .args .k) then steps T (c .args .k)) _ (c .in-Continue-check-surprises .ensures tt)
-      (answered-after (Applies T) numbers (patterns T (c .args .k)) (steps T (c .args .k)) _ (c .in-Continue-check-patterns .ensures tt) (c .check-steps .ensures))
+    (answered-after (Applies T) numbers (patterns T (c .args .k)) (steps T (c .args .k)) _ (c .in-Continue-check-patterns .ensures tt) (c .check-steps .ensures))

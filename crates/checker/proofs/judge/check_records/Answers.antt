@@ -26,11 +26,14 @@ check-record-requires g c κs =
     let n = machinesN (c .args .table .now .bytes .now) in
     let lt : c .loop-k .k < wordAt bs 10 = omega (arith, c .record-count-k-end .ensures) in
     record {
-      ready = c .pre .ready; rising = c .pre .rising;
+      ready = c .pre .ready;
+      rising = c .pre .rising;
       judging = record {
         is = c .record-held .ensures .is ∙ ap (λ (z : ℕ). recordAt z bs (c .loop-k .k)) (c .machines .ensures) ∙ sym (record-at n bs (c .loop-k .k) lt);
         sound = c .pre .sound (c .loop-k .k) lt;
-        machines = c .record-held .ensures .machines ∙ c .machines .ensures } }
+        machines = c .record-held .ensures .machines ∙ c .machines .ensures;
+      };
+    }
 
 pub returns-in-Break-check-record : need.returns-in-Break-check-record
 returns-in-Break-check-record g c =

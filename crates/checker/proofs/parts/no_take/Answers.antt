@@ -17,7 +17,7 @@ rule-requires c κs = omega (arith, rules-long (c .args .table .now .bytes .now)
 pub returns-then-takes : need.returns-then-takes
 returns-then-takes c =
     decides-false (λ h. h (c .loop-r .r) (omega arith)
-      (subst (λ (x : Rule). Takes x (c .args .machine) (c .args .local) (c .args .event)) (c .rule .ensures) (c .takes .ensures .0 (c .if-takes .taken))))
+    (subst (λ (x : Rule). Takes x (c .args .machine) (c .args .local) (c .args .event)) (c .rule .ensures) (c .takes .ensures .0 (c .if-takes .taken))))
 
 pub loop-r-again : need.loop-r-again
 loop-r-again c =

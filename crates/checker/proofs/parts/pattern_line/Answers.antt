@@ -16,4 +16,4 @@ pub returns : need.returns
 returns c =
     let bs = c .args .table .now .bytes .now in
     some-same (c .unwrap .result) (patternLineAt bs (patternOffset bs (c .args .l)))
-      (sym (c .unwrap .ensures) ∙ c .pattern-line .ensures ∙ nth-counted (λ l. patternLineAt bs (patternOffset bs l)) (patternLinesN bs) (c .args .l) (c .pre))
+    (sym (c .unwrap .ensures) ∙ c .pattern-line .ensures ∙ nth-counted (λ l. patternLineAt bs (patternOffset bs l)) (patternLinesN bs) (c .args .l) (c .pre))

@@ -30,7 +30,8 @@ lets-hold-requires g c κs =
     record {
       ready = c .pre .ready;
       judging = c .pre .judging;
-      below = subst (λ (z : PatternLine). z .condition .machine < machinesN bs) (sym (c .pattern-line-line .ensures)) (c .pre .ready .named (c .loop-l .l) (omega (arith, lines-long bs))) }
+      below = subst (λ (z : PatternLine). z .condition .machine < machinesN bs) (sym (c .pattern-line-line .ensures)) (c .pre .ready .named (c .loop-l .l) (omega (arith, lines-long bs)));
+    }
 
 pub returns-then-not-lets-hold : need.returns-then-not-lets-hold
 returns-then-not-lets-hold g c =
@@ -41,10 +42,10 @@ returns-then-not-lets-hold g c =
     let lt : c .args .n < length (systemOf bs .patterns) = omega (arith, patterns-long bs, c .pre .below) in
     let at : numberOf bs (c .loop-l .l) ≡ c .args .n = sym (ap (λ (z : PatternLine). z .number) (c .pattern-line-line .ensures)) ∙ c .if-line-n .left in
     decides-false (λ a.
-        let all = subst (λ (z : List Condition). MayMeet T (recordOf T (c .args .k)) z) (pattern-at bs (c .args .n) (c .pre .below)) (pattern-from T (g .A·QueueAbstraction·met .meaning p) _ (c .args .k) (c .args .held .now) (c .pre .judging) (c .pre .ready .proper) (c .args .n) lt a) in
-        not-from-decides _ (c .lets-hold .ensures) (c .if-not-lets-hold .taken)
-          (subst (λ (z : PatternLine). MayHold T (recordOf T (c .args .k)) (z .condition)) (sym (c .pattern-line-line .ensures))
-            (kept-all (MayHold T (recordOf T (c .args .k))) (λ l. conditionAt bs (patternOffset bs l)) (λ l. eqb (numberOf bs l) (c .args .n)) 0 (patternLinesN bs) all (c .loop-l .l) (omega arith) (omega (arith, lines-long bs)) (eq-eqb _ _ at))))
+    let all = subst (λ (z : List Condition). MayMeet T (recordOf T (c .args .k)) z) (pattern-at bs (c .args .n) (c .pre .below)) (pattern-from T (g .A·QueueAbstraction·met .meaning p) _ (c .args .k) (c .args .held .now) (c .pre .judging) (c .pre .ready .proper) (c .args .n) lt a) in
+    not-from-decides _ (c .lets-hold .ensures) (c .if-not-lets-hold .taken)
+    (subst (λ (z : PatternLine). MayHold T (recordOf T (c .args .k)) (z .condition)) (sym (c .pattern-line-line .ensures))
+    (kept-all (MayHold T (recordOf T (c .args .k))) (λ l. conditionAt bs (patternOffset bs l)) (λ l. eqb (numberOf bs l) (c .args .n)) 0 (patternLinesN bs) all (c .loop-l .l) (omega arith) (omega (arith, lines-long bs)) (eq-eqb _ _ at))))
 
 pub loop-l-again-then-line-n : need.loop-l-again-then-line-n
 loop-l-again-then-line-n g c =
@@ -53,7 +54,7 @@ loop-l-again-then-line-n g c =
     let bs = c .args .table .now .bytes .now in
     let T = claimOf bs (c .args .set .now .bytes .now) (q .bits p) (q .code p) (q .removals p) in
     below-more (λ j. numberOf bs j ≡ c .args .n → MayHold T (recordOf T (c .args .k)) (conditionAt bs (patternOffset bs j))) (c .loop-l .l) (c .loop-l .inv)
-      (λ e. absurd (c .if-line-n .taken (ap (λ (z : PatternLine). z .number) (c .pattern-line-line .ensures) ∙ e)))
+    (λ e. absurd (c .if-line-n .taken (ap (λ (z : PatternLine). z .number) (c .pattern-line-line .ensures) ∙ e)))
 
 pub loop-l-again : need.loop-l-again
 loop-l-again g c =
@@ -62,7 +63,7 @@ loop-l-again g c =
     let bs = c .args .table .now .bytes .now in
     let T = claimOf bs (c .args .set .now .bytes .now) (q .bits p) (q .code p) (q .removals p) in
     below-more (λ j. numberOf bs j ≡ c .args .n → MayHold T (recordOf T (c .args .k)) (conditionAt bs (patternOffset bs j))) (c .loop-l .l) (c .loop-l .inv)
-      (λ e. subst (λ (z : PatternLine). MayHold T (recordOf T (c .args .k)) (z .condition)) (c .pattern-line-line .ensures) (c .lets-hold .ensures .0 (c .if-not-lets-hold .left)))
+    (λ e. subst (λ (z : PatternLine). MayHold T (recordOf T (c .args .k)) (z .condition)) (c .pattern-line-line .ensures) (c .lets-hold .ensures .0 (c .if-not-lets-hold .left)))
 
 pub returns : need.returns
 returns g c =
@@ -72,6 +73,6 @@ returns g c =
     let T = claimOf bs (c .args .set .now .bytes .now) (q .bits p) (q .code p) (q .removals p) in
     let lt : c .args .n < length (systemOf bs .patterns) = omega (arith, patterns-long bs, c .pre .below) in
     decides-true (pattern-if T (g .A·QueueAbstraction·met .meaning p) _ (c .args .k) (c .args .held .now) (c .pre .judging) (c .pre .ready .proper) (c .args .n) lt
-      (subst (λ (z : List Condition). MayMeet T (recordOf T (c .args .k)) z) (sym (pattern-at bs (c .args .n) (c .pre .below)))
-        (all-kept (MayHold T (recordOf T (c .args .k))) (λ l. conditionAt bs (patternOffset bs l)) (λ l. eqb (numberOf bs l) (c .args .n)) 0 (patternLinesN bs)
-          (λ j l u e. c .loop-l .inv j (omega (arith, lines-long bs)) (eqb-true _ _ e)))))
+    (subst (λ (z : List Condition). MayMeet T (recordOf T (c .args .k)) z) (sym (pattern-at bs (c .args .n) (c .pre .below)))
+    (all-kept (MayHold T (recordOf T (c .args .k))) (λ l. conditionAt bs (patternOffset bs l)) (λ l. eqb (numberOf bs l) (c .args .n)) 0 (patternLinesN bs)
+    (λ j l u e. c .loop-l .inv j (omega (arith, lines-long bs)) (eqb-true _ _ e)))))

@@ -23,12 +23,15 @@ loop-low-again-in-Less c =
     let n = c .args .target .now .machines in
     let bs = c .args .set .now in
     let m = c .loop-low .low + (c .loop-low .high - c .loop-low .low) / 2 in
-    let i = c .loop-low .inv in
-    (omega arith, i .1,
+    let i = c .loop-low .inv in (
+      omega arith,
+      i .1,
       (λ j l. elim (cases-lt j m) [
-          inl lt ↦ before-trans (9 * n) (recordByte n bs j) (recordByte n bs m) (byteOf (recordIn (c .args .target .now))) (rises n bs (c .pre .ready .rising) j m lt (omega (arith, i .1))) (c .in-Less .ensures tt)
-          | inr ge ↦ (let e : m ≡ j = omega arith in subst (λ (z : ℕ). Before (9 * n) (recordByte n bs z) (byteOf (recordIn (c .args .target .now)))) e (c .in-Less .ensures tt)) ]),
-      i .3)
+        | inl lt ↦ before-trans (9 * n) (recordByte n bs j) (recordByte n bs m) (byteOf (recordIn (c .args .target .now))) (rises n bs (c .pre .ready .rising) j m lt (omega (arith, i .1))) (c .in-Less .ensures tt)
+        | inr ge ↦ (let e : m ≡ j = omega arith in subst (λ (z : ℕ). Before (9 * n) (recordByte n bs z) (byteOf (recordIn (c .args .target .now)))) e (c .in-Less .ensures tt))
+      ]),
+      i .3,
+    )
 
 pub returns-in-Equal : need.returns-in-Equal
 returns-in-Equal c =
@@ -44,11 +47,15 @@ loop-low-again c =
     let n = c .args .target .now .machines in
     let bs = c .args .set .now in
     let m = c .loop-low .low + (c .loop-low .high - c .loop-low .low) / 2 in
-    let i = c .loop-low .inv in
-    (omega arith, omega (arith, i .1), i .2,
+    let i = c .loop-low .inv in (
+      omega arith,
+      omega (arith, i .1),
+      i .2,
       (λ j l u. elim (cases-eq m j) [
-          inl e ↦ subst (λ (z : ℕ). Before (9 * n) (byteOf (recordIn (c .args .target .now))) (recordByte n bs z)) e (c .in-Greater .ensures tt)
-          | inr ne ↦ before-trans (9 * n) (byteOf (recordIn (c .args .target .now))) (recordByte n bs m) (recordByte n bs j) (c .in-Greater .ensures tt) (rises n bs (c .pre .ready .rising) m j (omega arith) u) ]))
+        | inl e ↦ subst (λ (z : ℕ). Before (9 * n) (byteOf (recordIn (c .args .target .now))) (recordByte n bs z)) e (c .in-Greater .ensures tt)
+        | inr ne ↦ before-trans (9 * n) (byteOf (recordIn (c .args .target .now))) (recordByte n bs m) (recordByte n bs j) (c .in-Greater .ensures tt) (rises n bs (c .pre .ready .rising) m j (omega arith) u)
+      ]),
+    )
 
 pub returns : need.returns
 returns c =
@@ -57,9 +64,10 @@ returns c =
     let i = c .loop-low .inv in
     let r = recordIn (c .args .target .now) in
     decides-false (λ x.
-        let j = x .0 in
-        let lt : j < wordAt bs 10 = omega (arith, x .1, records-long n bs) in
-        let same = same-bytes n bs j r (λ t. c .typed .set t .fits) (sym (record-at n bs j lt) ∙ x .2) in
-        elim (cases-lt j (c .loop-low .low)) [
-            inl l ↦ before-not (9 * n) (recordByte n bs j) (byteOf r) (i .2 j l) same
-            | inr g ↦ before-not (9 * n) (byteOf r) (recordByte n bs j) (i .3 j (omega arith) lt) (same-sym (9 * n) (recordByte n bs j) (byteOf r) same) ])
+    let j = x .0 in
+    let lt : j < wordAt bs 10 = omega (arith, x .1, records-long n bs) in
+    let same = same-bytes n bs j r (λ t. c .typed .set t .fits) (sym (record-at n bs j lt) ∙ x .2) in
+    elim (cases-lt j (c .loop-low .low)) [
+      | inl l ↦ before-not (9 * n) (recordByte n bs j) (byteOf r) (i .2 j l) same
+      | inr g ↦ before-not (9 * n) (byteOf r) (recordByte n bs j) (i .3 j (omega arith) lt) (same-sym (9 * n) (recordByte n bs j) (byteOf r) same)
+    ])

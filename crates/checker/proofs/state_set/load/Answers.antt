@@ -21,11 +21,13 @@ loop-i-again c =
     let bs = c .args .set .now in
     let o = 16 + 9 * c .args .n * c .args .k + 9 * i in
     let e : Entry = record { local = getD bs o 0; code = c .long .result } in
-    let len : i < length es = omega (arith, c .loop-i .inv .0) in
-    (length-set es i e ∙ c .loop-i .inv .0, c .loop-i .inv .1,
+    let len : i < length es = omega (arith, c .loop-i .inv .0) in (
+      length-set es i e ∙ c .loop-i .inv .0,
+      c .loop-i .inv .1,
       below-more (λ j. entryOf (getD (set es i e) j blank) ≡ (getD bs (16 + 9 * c .args .n * c .args .k + 9 * j) 0, longAt bs (16 + 9 * c .args .n * c .args .k + 9 * j + 1))) i
-        (λ j h. let ne : j ≢ i = omega arith in ap entryOf (getD-set-other es i j e blank ne) ∙ c .loop-i .inv .2 j h)
-        (ap entryOf (getD-set-same es i e blank len) ∙ ap (λ (z : ℕ). (getD bs o 0, z)) (c .long .ensures)))
+          (λ j h. let ne : j ≢ i = omega arith in ap entryOf (getD-set-other es i j e blank ne) ∙ c .loop-i .inv .2 j h)
+          (ap entryOf (getD-set-same es i e blank len) ∙ ap (λ (z : ℕ). (getD bs o 0, z)) (c .long .ensures)),
+    )
 
 pub returns : need.returns
 returns c =
@@ -36,5 +38,6 @@ returns c =
     let len : length (recordIn h) ≡ n = length-take-le (h .machines) (map entryOf (h .entries)) (omega (arith, c .loop-i .inv .1, c .pre .few)) ∙ c .loop-i .inv .1 in
     record {
       is = fill-by-all (λ j. (getD bs (16 + 9 * n * c .args .k + 9 * j) 0, longAt bs (16 + 9 * n * c .args .k + 9 * j + 1))) (recordIn h) n (0, 0) len
-        (λ j lt. held-at h j (omega (arith, c .loop-i .inv .1)) ∙ c .loop-i .inv .2 j (omega arith));
-      machines = c .loop-i .inv .1 }
+          (λ j lt. held-at h j (omega (arith, c .loop-i .inv .1)) ∙ c .loop-i .inv .2 j (omega arith));
+      machines = c .loop-i .inv .1;
+    }

@@ -19,5 +19,5 @@ returns g c =
     let x = c .args .mover in
     let own : c .entry-at-own .result .code ≡ codeIn (recordOf T (c .args .k)) (x .machine) = ap (λ (z : ℕ × ℕ). z .1) (entry-is T law _ (c .args .k) (c .args .held .now) (c .pre .judging) (x .machine) _ _ (c .entry-at-own .ensures)) in
     judged-inside T law _ (c .args .k) (c .args .held .now) (c .pre .judging) (c .pre .ready .proper) (c .args .r) x Local (c .pre .enabled) 0 _ (recordIn (c .moved .result)) (recordsOf (c .moved .result .machines) (c .args .set .now .bytes .now)) (c .inside .result)
-      (refl, ap (λ (z : ℕ). movedIn x z (recordOf T (c .args .k))) own)
-      (ap (λ (z : ℕ). recordsOf z (c .args .set .now .bytes .now)) (c .moved .ensures .machines)) (c .moved .ensures .is) (c .inside .ensures)
+    (refl, ap (λ (z : ℕ). movedIn x z (recordOf T (c .args .k))) own)
+    (ap (λ (z : ℕ). recordsOf z (c .args .set .now .bytes .now)) (c .moved .ensures .machines)) (c .moved .ensures .is) (c .inside .ensures)

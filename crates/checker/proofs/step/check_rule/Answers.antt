@@ -47,9 +47,12 @@ check-local-requires g c κs =
     let own : c .entry-at-own .result .local ≡ localIn (recordOf T (c .args .k)) (x .machine) = ap (λ (z : ℕ × ℕ). z .0) (entry-is T law _ (c .args .k) (c .args .held .now) (c .pre .judging) (x .machine) _ _ (c .entry-at-own .ensures)) in
     let f = rule-fits (systemOf bs) (c .pre .ready .proper) (c .args .r) lt x (c .rule-stepper .ensures) in
     record {
-      ready = c .pre .ready; rising = c .pre .rising; judging = c .pre .judging;
+      ready = c .pre .ready;
+      rising = c .pre .rising;
+      judging = c .pre .judging;
       enabled = record { below = lt; is = c .rule-stepper .ensures; action = c .in-Local .is; from = sym own ∙ c .if-own-stepper .left };
-      below = omega (arith, f .machine, machines-long bs) }
+      below = omega (arith, f .machine, machines-long bs);
+    }
 
 pub check-take-requires : need.check-take-requires
 check-take-requires g c κs =
@@ -63,9 +66,12 @@ check-take-requires g c κs =
     let own : c .entry-at-own .result .local ≡ localIn (recordOf T (c .args .k)) (x .machine) = ap (λ (z : ℕ × ℕ). z .0) (entry-is T law _ (c .args .k) (c .args .held .now) (c .pre .judging) (x .machine) _ _ (c .entry-at-own .ensures)) in
     let f = rule-fits (systemOf bs) (c .pre .ready .proper) (c .args .r) lt x (c .rule-stepper .ensures) in
     record {
-      ready = c .pre .ready; rising = c .pre .rising; judging = c .pre .judging;
+      ready = c .pre .ready;
+      rising = c .pre .rising;
+      judging = c .pre .judging;
       enabled = record { below = lt; is = c .rule-stepper .ensures; action = c .in-Take .is; from = sym own ∙ c .if-own-stepper .left };
-      below = omega (arith, f .machine, machines-long bs) }
+      below = omega (arith, f .machine, machines-long bs);
+    }
 
 pub check-send-requires : need.check-send-requires
 check-send-requires g c κs =
@@ -80,9 +86,14 @@ check-send-requires g c κs =
     let f = rule-fits (systemOf bs) (c .pre .ready .proper) (c .args .r) lt x (c .rule-stepper .ensures) in
     let s = subst (ActionFits (systemOf bs)) (c .in-Send .is) (f .action) in
     record {
-      ready = c .pre .ready; rising = c .pre .rising; judging = c .pre .judging;
+      ready = c .pre .ready;
+      rising = c .pre .rising;
+      judging = c .pre .judging;
       enabled = record { below = lt; is = c .rule-stepper .ensures; action = c .in-Send .is; from = sym own ∙ c .if-own-stepper .left };
-      below = omega (arith, f .machine, machines-long bs); there = omega (arith, s .1, machines-long bs); named = s .0 }
+      below = omega (arith, f .machine, machines-long bs);
+      there = omega (arith, s .1, machines-long bs);
+      named = s .0;
+    }
 
 pub returns-in-Local : need.returns-in-Local
 returns-in-Local g c =
@@ -116,4 +127,3 @@ returns-in-Send g c =
     let x = c .rule-stepper .result in
     let lt : c .args .r < length (systemOf bs .rules) = omega (arith, rules-long bs, c .pre .below) in
     judged-rule T (c .args .k) (c .args .r) x (Send (c .in-Send .event) (c .in-Send .target)) (c .check-send .result) (c .rule-stepper .ensures) (c .in-Send .is) (judged-one T (c .args .k) (c .args .r) (c .check-send .result) (c .check-send .ensures))
-

@@ -23,7 +23,8 @@ inside-requires g c κs =
     record {
       few = omega (arith, c .replaced .ensures .machines, c .moved-next .ensures .machines, c .pre .ready .few);
       sized = ap length (c .replaced .ensures .is) ∙ length-set (recordIn (c .moved-next .result)) (c .args .target) _ ∙ c .moved-next .ensures .sized ∙ sym (c .replaced .ensures .machines ∙ c .moved-next .ensures .machines);
-      ready = subst (λ (z : ℕ). SetReady z (c .args .set .now .bytes .now)) (sym (c .replaced .ensures .machines ∙ c .moved-next .ensures .machines)) (c .pre .rising) }
+      ready = subst (λ (z : ℕ). SetReady z (c .args .set .now .bytes .now)) (sym (c .replaced .ensures .machines ∙ c .moved-next .ensures .machines)) (c .pre .rising);
+    }
 
 pub returns-in-rest : need.returns-in-rest
 returns-in-rest g c =
@@ -56,7 +57,7 @@ returns g c =
     let next = recordIn (c .moved-next .result) in
     let n : c .replaced .result .machines ≡ machinesN bs = c .replaced .ensures .machines ∙ c .moved-next .ensures .machines in
     judged-inside T law _ (c .args .k) (c .args .held .now) (c .pre .judging) (c .pre .ready .proper) (c .args .r) x (Send (c .args .event) t) (c .pre .enabled) 0 (sentIn t d (movedIn x (codeIn r (x .machine)) r)) (recordIn (c .replaced .result)) (recordsOf (c .replaced .result .machines) (c .args .set .now .bytes .now)) (c .inside .result)
-      (d, refl, appends-as (q .code p) _ _ _ _ (c .args .event) d (c .events .ensures) there (c .in-Some .ensures tt .2), refl)
-      (ap (λ (z : ℕ). recordsOf z (c .args .set .now .bytes .now)) n)
-      (c .replaced .ensures .is ∙ ap (λ (z : ℕ × ℕ). set next t (z .0, d)) (c .entry-at-local .ensures) ∙ ap (sentIn t d) (c .moved-next .ensures .is ∙ ap (λ (z : ℕ). movedIn x z r) own))
-      (c .inside .ensures)
+    (d, refl, appends-as (q .code p) _ _ _ _ (c .args .event) d (c .events .ensures) there (c .in-Some .ensures tt .2), refl)
+    (ap (λ (z : ℕ). recordsOf z (c .args .set .now .bytes .now)) n)
+    (c .replaced .ensures .is ∙ ap (λ (z : ℕ × ℕ). set next t (z .0, d)) (c .entry-at-local .ensures) ∙ ap (sentIn t d) (c .moved-next .ensures .is ∙ ap (λ (z : ℕ). movedIn x z r) own))
+    (c .inside .ensures)

@@ -19,4 +19,5 @@ returns g c =
     record {
       is = e;
       machines = c .replaced .ensures .machines ∙ c .pre .judging .machines;
-      sized = ap length e ∙ length-set (recordOf T (c .args .k)) (x .machine) (x .to, c .args .number) ∙ c .pre .judging .sound .entries ∙ machines-long bs }
+      sized = ap length e ∙ length-set (recordOf T (c .args .k)) (x .machine) (x .to, c .args .number) ∙ c .pre .judging .sound .entries ∙ machines-long bs;
+    }

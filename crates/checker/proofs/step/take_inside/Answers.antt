@@ -29,5 +29,5 @@ returns g c =
     let law = g .A·QueueAbstraction·met .meaning p in
     let x = c .args .taker in
     judged-inside T law _ (c .args .k) (c .args .held .now) (c .pre .judging) (c .pre .ready .proper) (c .args .r) x (Take (c .args .event)) (c .pre .enabled) (c .args .c) _ (recordIn (c .moved .result)) (recordsOf (c .moved .result .machines) (c .args .set .now .bytes .now)) (c .inside .result)
-      (c .args .left, c .pre .removal ∙ ap {B = Option (ℕ × ℕ)} (λ (z : ℕ). Some (z, c .args .left)) (c .if-taken-event .left), refl)
-      (ap (λ (z : ℕ). recordsOf z (c .args .set .now .bytes .now)) (c .moved .ensures .machines)) (c .moved .ensures .is) (c .inside .ensures)
+    (c .args .left, c .pre .removal ∙ ap {B = Option (ℕ × ℕ)} (λ (z : ℕ). Some (z, c .args .left)) (c .if-taken-event .left), refl)
+    (ap (λ (z : ℕ). recordsOf z (c .args .set .now .bytes .now)) (c .moved .ensures .machines)) (c .moved .ensures .is) (c .inside .ensures)
