@@ -2,6 +2,7 @@
 use mathlib.Core.Path.{_≡_}
 use mathlib.Core.List.{List}
 use Prim.Native.Nat.{ℕ, _+_, _*_, _^_, _<_}
+use Rattle.std.specs.Results.{Cases}
 use Rattle.std.specs.declared.result.Result.{Result}
 use Rattle.std.specs.declared.result.Result.the-variants.{Ok, Err}
 use Rattle.model.specs.declared.fault.Fault.{Fault}
@@ -29,3 +30,4 @@ pub record Answers (table set : List ℕ) (T : Claim) (v : ℕ) : Type 0 where
   pub result : Result Pass Fault
   pub checked : Checked table set T result
   pub is : v ≡ verdict result
+  pub fits : Cases result (λ _. Unit {0}) Fits

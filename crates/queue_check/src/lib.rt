@@ -3,6 +3,7 @@ ghost use mathlib.Core.Path.{_≡_};
 ghost use Prim.Native.Nat.{ℕ};
 ghost use Rattle.table.specs.Bytes.{wordAt};
 ghost use Rattle.checker.specs.Promise.{Checked};
+ghost use Rattle.queue_check.specs.Packed.{packed, Fits, Answers};
 ghost use Rattle.queue_check.specs.Layers.{Layers, under, ofKind, named, claimUnder};
 
 use abstraction::QueueAbstraction;
@@ -42,5 +43,24 @@ pub fn check_files<'a>(table: &'a [u8], set: &[u8]) -> Result<Pass<'a>, Fault>
         0 => check_kept(table, set, ListAbstraction),
         1 => check_kept(table, set, SetAbstraction),
         _ => check_kept(table, set, BlankAbstraction),
+    }
+}
+
+// A fault as one number: the refusal's number in eight bits, A in twenty-four, B in sixteen, C in sixteen.
+fn pack(fault: Fault) -> u64
+    requires { ⌜ Fits fault ⌝ }
+    ensures { λ r. ⌜ r ≡ packed fault ⌝ }
+{
+    u64::from(fault.number.number()) + (u64::from(fault.a) << 8) + (u64::from(fault.b) << 32) + (fault.c << 48)
+}
+
+// The verdict as one number, for C: 0 for a pass, else the packed fault.
+#[unsafe(no_mangle)]
+pub extern "C" fn queue_check(table: &[u8], set: &[u8]) -> u64
+    ensures { λ v. ⌜ Answers (now (table .entry)) (now (set .entry)) (claimUnder (now (table .entry)) (now (set .entry)) (named (now (set .entry)))) v ⌝ }
+{
+    match check_files(table, set) {
+        Ok(_) => 0,
+        Err(fault) => pack(fault),
     }
 }
