@@ -113,6 +113,7 @@ pub impl QueueAbstraction for ListAbstraction as ListMeaning {
         let here = place((k - 1) as u8);
         let high = rest / here;
         let low = rest % here;
-        Some((e, (16 * high + u64::from(e) + 1) * here + low))
+        let left = (16 * high + u64::from(e) + 1) * here + low;
+        Some((e, left))
     }
 }

@@ -97,11 +97,11 @@ left m c count j wide here p l q h =
 there : (c : need.After-from-2) → Left (c .args .m) (c .args .c) (c .in-Continue-listed .listed .count) (c .args .k - 1) (c .from-2 .result) (c .place-here .result) (parts _ _ _ _ (c .in-Continue-listed .ensures tt) (c .if-c-eq0 .left))
 there c = left _ _ _ (c .args .k - 1) _ _ (parts _ _ _ _ (c .in-Continue-listed .ensures tt) (c .if-c-eq0 .left)) (omega (arith, c .if-k-from .left, c .from .ensures, c .if-k-eq0 .left)) (c .from-2 .ensures) (c .place-here .ensures)
 
-pub mul-result-2 : need.mul-result-2
-mul-result-2 c = let t = there c .value in record { fits = omega arith }
+pub mul-left-2 : need.mul-left-2
+mul-left-2 c = let t = there c .value in record { fits = omega arith }
 
-pub add-result-3 : need.add-result-3
-add-result-3 c = let t = there c .value in record { fits = omega arith }
+pub add-left-3 : need.add-left-3
+add-left-3 c = let t = there c .value in record { fits = omega arith }
 
 pub returns : need.returns
 returns c =
