@@ -85,15 +85,15 @@ module _ (n : ℕ) (bs : List ℕ) (k : ℕ) (r : Record) where
     long-is : codeIn r i < 2 ^ 64 → longAt bs (16 + 9 * n * k + 9 * i + 1) ≡ codeIn r i
     long-is small =
         let o = 16 + 9 * n * k + 9 * i + 1 in
-        let p0 = place 1 o (omega arith) (omega arith) in
-        let p1 = place 2 (o + 1) (omega arith) (omega arith) in
-        let p2 = place 3 (o + 2) (omega arith) (omega arith) in
-        let p3 = place 4 (o + 3) (omega arith) (omega arith) in
-        let p4 = place 5 (o + 4) (omega arith) (omega arith) in
-        let p5 = place 6 (o + 5) (omega arith) (omega arith) in
-        let p6 = place 7 (o + 6) (omega arith) (omega arith) in
-        let p7 = place 8 (o + 7) (omega arith) (omega arith) in
-        eight _ _ _ _ _ _ _ _ (codeIn r i) p0 p1 p2 p3 p4 p5 p6 p7 small
+        let b0 = place 1 o (omega arith) (omega arith) in
+        let b1 = place 2 (o + 1) (omega arith) (omega arith) in
+        let b2 = place 3 (o + 2) (omega arith) (omega arith) in
+        let b3 = place 4 (o + 3) (omega arith) (omega arith) in
+        let b4 = place 5 (o + 4) (omega arith) (omega arith) in
+        let b5 = place 6 (o + 5) (omega arith) (omega arith) in
+        let b6 = place 7 (o + 6) (omega arith) (omega arith) in
+        let b7 = place 8 (o + 7) (omega arith) (omega arith) in
+        eight _ _ _ _ _ _ _ _ (codeIn r i) b0 b1 b2 b3 b4 b5 b6 b7 small
       where
         eight : (a b c d e f g h z : ℕ) → a ≡ z / 2 ^ 0 % 256 → b ≡ z / 2 ^ 8 % 256 → c ≡ z / 2 ^ 16 % 256 → d ≡ z / 2 ^ 24 % 256 → e ≡ z / 2 ^ 32 % 256 → f ≡ z / 2 ^ 40 % 256 → g ≡ z / 2 ^ 48 % 256 → h ≡ z / 2 ^ 56 % 256 → z < 2 ^ 64 → a + b * 256 + c * 256 ^ 2 + d * 256 ^ 3 + e * 256 ^ 4 + f * 256 ^ 5 + g * 256 ^ 6 + h * 256 ^ 7 ≡ z
         eight a b c d e f g h z pa pb pc pd pe pf pg ph l = omega arith

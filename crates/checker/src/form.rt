@@ -150,7 +150,7 @@ fn form_records<A: QueueAbstraction>(
 }
 
 // Whether the start is represented.
-pub fn has_start<A: QueueAbstraction>(
+pub(crate) fn has_start<A: QueueAbstraction>(
     table: &Table<'_>,
     set: &StateSet<'_>,
     abstraction: &A,
@@ -164,7 +164,7 @@ pub fn has_start<A: QueueAbstraction>(
 }
 
 // The first thing wrong with the header or the records of a set.
-pub fn check_form<A: QueueAbstraction>(
+pub(crate) fn check_form<A: QueueAbstraction>(
     table: &Table<'_>,
     set: &StateSet<'_>,
     abstraction: &A,

@@ -21,7 +21,7 @@ pub struct Held {
 }
 
 // The record with every machine in local state 0, with one code.
-pub fn uniform(machines: u8, number: u64) -> Held
+pub(crate) fn uniform(machines: u8, number: u64) -> Held
     requires { ⌜ machines ≤ 6 ⌝ }
     ensures is { λ r. ⌜ recordIn r ≡ replicate machines (0, number) ⌝ }
     ensures machines { λ r. ⌜ r .machines ≡ machines ⌝ }
@@ -36,7 +36,7 @@ pub fn uniform(machines: u8, number: u64) -> Held
 }
 
 // What the record says of machine `i`.
-pub fn entry_at(held: &Held, i: u8) -> Entry
+pub(crate) fn entry_at(held: &Held, i: u8) -> Entry
     requires few { ⌜ now held .machines ≤ 6 ⌝ }
     requires below { ⌜ i < now held .machines ⌝ }
     ensures { λ r. ⌜ entryOf r ≡ getD (recordIn (now (held .entry))) i (0, 0) ⌝ }
@@ -45,7 +45,7 @@ pub fn entry_at(held: &Held, i: u8) -> Entry
 }
 
 // The record with what it says of machine `i` replaced.
-pub fn replaced(held: &Held, i: u8, entry: Entry) -> Held
+pub(crate) fn replaced(held: &Held, i: u8, entry: Entry) -> Held
     requires few { ⌜ now held .machines ≤ 6 ⌝ }
     requires below { ⌜ i < now held .machines ⌝ }
     ensures is { λ r. ⌜ recordIn r ≡ put (recordIn (now (held .entry))) i (entryOf entry) ⌝ }

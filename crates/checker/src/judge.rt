@@ -36,7 +36,7 @@ fn check_record<A: QueueAbstraction>(
 }
 
 // The first thing found in the records.
-pub fn check_records<A: QueueAbstraction>(
+pub(crate) fn check_records<A: QueueAbstraction>(
     table: &Table<'_>,
     set: &StateSet<'_>,
     abstraction: &A,

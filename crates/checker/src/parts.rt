@@ -13,7 +13,7 @@ use table::line::PatternLine;
 use table::view::Table;
 
 // The number of machines.
-pub fn machines(table: &Table<'_>) -> u8
+pub(crate) fn machines(table: &Table<'_>) -> u8
     requires { ⌜ machinesN (now (now table .bytes)) ≤ 6 ⌝ }
     ensures { λ r. ⌜ r ≡ machinesN (now (now (table .entry) .bytes)) ⌝ }
 {
@@ -21,7 +21,7 @@ pub fn machines(table: &Table<'_>) -> u8
 }
 
 // The number of events.
-pub fn events(table: &Table<'_>) -> u8
+pub(crate) fn events(table: &Table<'_>) -> u8
     requires { ⌜ eventsN (now (now table .bytes)) ≤ 8 ⌝ }
     ensures { λ r. ⌜ r ≡ eventsN (now (now (table .entry) .bytes)) ⌝ }
 {
@@ -29,14 +29,14 @@ pub fn events(table: &Table<'_>) -> u8
 }
 
 // The number of local states of a machine; 0 where there is no such machine.
-pub fn local_states(table: &Table<'_>, machine: u8) -> u8
+pub(crate) fn local_states(table: &Table<'_>, machine: u8) -> u8
     ensures { λ r. ⌜ r ≡ statesOf (systemOf (now (now (table .entry) .bytes))) machine ⌝ }
 {
     table.local_states(u16::from(machine)).unwrap_or(0)
 }
 
 // The rule of number `r`.
-pub fn rule(table: &Table<'_>, r: u16) -> Rule
+pub(crate) fn rule(table: &Table<'_>, r: u16) -> Rule
     requires { ⌜ r < rulesN (now (now table .bytes)) ⌝ }
     ensures { λ x. ⌜ x ≡ ruleOf (systemOf (now (now (table .entry) .bytes))) r ⌝ }
 {
@@ -44,7 +44,7 @@ pub fn rule(table: &Table<'_>, r: u16) -> Rule
 }
 
 // The pattern line of number `l`.
-pub fn pattern_line(table: &Table<'_>, l: u16) -> PatternLine
+pub(crate) fn pattern_line(table: &Table<'_>, l: u16) -> PatternLine
     requires { ⌜ l < patternLinesN (now (now table .bytes)) ⌝ }
     ensures { λ x. ⌜ x ≡ patternLineAt (now (now (table .entry) .bytes)) (patternOffset (now (now (table .entry) .bytes)) l) ⌝ }
 {
@@ -63,7 +63,7 @@ fn takes(rule: Rule, machine: u8, local: u8, event: u8) -> bool
 }
 
 // Whether no rule lets a machine in a local state take an event.
-pub fn no_take(table: &Table<'_>, machine: u8, local: u8, event: u8) -> bool
+pub(crate) fn no_take(table: &Table<'_>, machine: u8, local: u8, event: u8) -> bool
     ensures { λ x. ⌜ Decides x (NoTake (systemOf (now (now (table .entry) .bytes))) machine local event) ⌝ }
 {
     for r in 0..table.rule_count() {

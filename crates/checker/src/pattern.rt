@@ -80,7 +80,7 @@ fn lets_meet<A: QueueAbstraction>(
 }
 
 // The first pattern that can be met.
-pub fn check_patterns<A: QueueAbstraction>(
+pub(crate) fn check_patterns<A: QueueAbstraction>(
     table: &Table<'_>,
     set: &StateSet<'_>,
     abstraction: &A,

@@ -258,7 +258,7 @@ fn check_rule<A: QueueAbstraction>(
 }
 
 // The first rule that leads outside.
-pub fn check_steps<A: QueueAbstraction>(
+pub(crate) fn check_steps<A: QueueAbstraction>(
     table: &Table<'_>,
     set: &StateSet<'_>,
     abstraction: &A,

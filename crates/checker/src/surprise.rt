@@ -69,7 +69,7 @@ fn machine_surprises<A: QueueAbstraction>(
 }
 
 // The first machine that can be surprised.
-pub fn check_surprises<A: QueueAbstraction>(
+pub(crate) fn check_surprises<A: QueueAbstraction>(
     table: &Table<'_>,
     set: &StateSet<'_>,
     abstraction: &A,
