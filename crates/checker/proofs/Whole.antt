@@ -23,9 +23,9 @@ use Rattle.table.proofs.Stable.{stable-eq}
 use Rattle.closed_sets.specs.Records.{Claim, Closed, Represented, Sound, recordOf}
 use Rattle.closed_sets.specs.Judging as judging
 use Rattle.closed_sets.specs.Theorems.{Means, Sound-all}
-use Rattle.closed_sets.proofs.Closure.{found-nothing, closed-nothing}
+use Rattle.closed_sets.proofs.Closure.{found-nothing, closed-nothing, closed-holds}
 use Rattle.checker.specs.Inner.{Formed}
-use Rattle.checker.specs.Promise.{GoodForm, Passes}
+use Rattle.checker.specs.Promise.{GoodForm, Passes, Safe}
 use Rattle.checker.specs.Ready.{Ready}
 use Rattle.checker.specs.SetFile.{recordsN, recordByte, Before, SetReady}
 use Rattle.checker.specs.Verdict.{Finding, inTable, inHeader, inRecord, HeaderApplies, headerOrder, Applies, numbers, formOf, formOrder, closedOrder, tableOrder, order}
@@ -44,6 +44,9 @@ reads-ready bs r = record {
 pub closed-if : (T : Claim) → Means T → WellFormed (T .system) → Sound-all T → Represented T (start (T .system)) → (r : Result (Unit {0}) Fault) → judging.Judged T (judging.judged T) r → Cases r (λ _. Closed T) (λ _. Unit {0})
 closed-if T law w s b (Ok u) n = found-nothing T law w s b n
 closed-if T law w s b (Err f) n = tt
+
+pub closed-safe : (T : Claim) → WellFormed (T .system) → Closed T → Safe T
+closed-safe T w c = record { covers = λ s r. closed-holds T w c s r .0; never = λ (s, r, bad). closed-holds T w c s r .1 bad }
 
 -- what a header with nothing wrong says
 module _ (table set : List ℕ) (h : Nothing (HeaderApplies table set) headerOrder) where

@@ -7,7 +7,7 @@ use Rattle.std.specs.declared.result.Result.the-variants.{Ok, Err}
 use Rattle.model.specs.declared.fault.Fault.{Fault}
 use Rattle.model.specs.State.{State}
 use Rattle.model.specs.Steps.{Reaches}
-use Rattle.model.specs.Bad.{Bad}
+use Rattle.model.specs.Bad.{GoesWrong}
 use Rattle.model.specs.Order.{Nothing, FirstFault, _then_}
 use Rattle.table.specs.Reading.{Reads}
 use Rattle.closed_sets.specs.Records.{Claim, Closed, Represented}
@@ -26,9 +26,10 @@ pub record Passes (table set : List ℕ) (T : Claim) : Type 0 where
   pub form : GoodForm table set T
   pub closed : Closed T
 
--- every state that is reached, with queues of any length, is represented and not bad
-abbrev pub Safe : Claim → Type 0
-Safe T = (s : State) → Reaches (T .system) s → Represented T s × (Bad (T .system) s → ⊥)
+-- every state that is reached, with queues of any length, is represented and not bad: the system does not go wrong
+pub record Safe (T : Claim) : Type 0 where
+  pub covers : (s : State) → Reaches (T .system) s → Represented T s
+  pub never : GoesWrong (T .system) → ⊥
 
 -- a pass exactly where the set is as it should be, and then no reached state is bad;
 -- else the fault of the first thing wrong in the order

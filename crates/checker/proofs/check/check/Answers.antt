@@ -7,11 +7,10 @@ use Rattle.model.specs.Order.{Nothing, FirstFault, Answered}
 use Rattle.model.proofs.Findings.{answered-first, answered-after, answered-under}
 use Rattle.table.specs.Findings as reading
 use Rattle.closed_sets.specs.Records.{Closed}
-use Rattle.closed_sets.proofs.Closure.{closed-holds}
 use Rattle.checker.specs.Ready.{Ready}
 use Rattle.checker.specs.SetFile.{claimOf}
 use Rattle.checker.specs.Verdict.{Applies, numbers, inTable, tableOrder, setOrder}
-use Rattle.checker.proofs.Whole.{reads-ready, reads-nothing, fails}
+use Rattle.checker.proofs.Whole.{reads-ready, reads-nothing, fails, closed-safe}
 use Rattle.checker.proofs.check.check.Needs as need
 
 pub returns-in-Break-view : need.returns-in-Break-view
@@ -59,4 +58,4 @@ returns g c =
     let shut : List ℕ → List ℕ → Type 0 = λ b o. Closed (claimOf b o (q .bits p) (q .code p) (q .removals p)) in
     let nothing : at bs s = subst (λ (o : List ℕ). at bs o) (c .over .ensures) (subst (λ (b : List ℕ). at b (c .over .result .bytes .now)) (v .0) (h .first)) in
     let closed : shut bs s = subst (λ (o : List ℕ). shut bs o) (c .over .ensures) (subst (λ (b : List ℕ). shut b (c .over .result .bytes .now)) (v .0) (h .closed)) in
-    (v .0, refl, record { reads = v .1; form = nothing .0; closed = closed }, closed-holds T (reads-ready bs (v .1) .proper) closed)
+    (v .0, refl, record { reads = v .1; form = nothing .0; closed = closed }, closed-safe T (reads-ready bs (v .1) .proper) closed)
