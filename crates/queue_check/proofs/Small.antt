@@ -78,8 +78,9 @@ mask-few m c = cond-few 16 (set-good m c) (set-from c 0 m) (λ e. omega (arith, 
 unpack-few : (n c : ℕ) → length (unpack n c) ≤ n
 unpack-few zero c = omega arith
 unpack-few (suc n) c = elim (cases-bool (eqb (c % 16) 0)) [
-      inl e ↦ subst (λ (b : Bool). length (cond b [] ((c % 16 - 1) ∷ unpack n (c / 16))) ≤ suc n) (sym e) (omega arith)
-      | inr e ↦ subst (λ (b : Bool). length (cond b [] ((c % 16 - 1) ∷ unpack n (c / 16))) ≤ suc n) (sym e) (omega (arith, unpack-few n (c / 16))) ]
+  | inl e ↦ subst (λ (b : Bool). length (cond b [] ((c % 16 - 1) ∷ unpack n (c / 16))) ≤ suc n) (sym e) (omega arith)
+  | inr e ↦ subst (λ (b : Bool). length (cond b [] ((c % 16 - 1) ∷ unpack n (c / 16))) ≤ suc n) (sym e) (omega (arith, unpack-few n (c / 16)))
+]
 
 insertions-few : (e : ℕ) (L : List ℕ) → length (insertions e L) ≤ length L + 1
 insertions-few e [] = omega arith
@@ -100,24 +101,28 @@ keeping-few n L f m c =
     let b = c / 16 in
     let none : List (ℕ × ℕ) = (e, 0) ∷ [] in
     cond-few (n + 1) (begun (keep-bits (L .width)) m c) (keep-taken (L .code) (L .removals) m e b)
-      (λ _. omega (arith, length-append (cond (eqb (L .code m []) b) none []) (map (kept e) (L .removals m b)), cond-few 1 (eqb (L .code m []) b) none (λ _. omega arith), length-map (L .removals m b) (kept e), f m b))
+    (λ _. omega (arith, length-append (cond (eqb (L .code m []) b) none []) (map (kept e) (L .removals m b)), cond-few 1 (eqb (L .code m []) b) none (λ _. omega arith), length-map (L .removals m b) (kept e), f m b))
 
 kind-few : (k : ℕ) → Few 16 (ofKind k)
 kind-few k = elim (cases-eq k 0) [
-      inl e ↦ subst (Few 16) (sym (kind-list k e)) list-few
-      | inr ne ↦ elim (cases-eq k 1) [
-          inl e ↦ subst (Few 16) (sym (kind-mask k e)) mask-few
-          | inr no-one ↦ subst (Few 16) (sym (kind-blank k ne no-one)) blank-few ] ]
+  | inl e ↦ subst (Few 16) (sym (kind-list k e)) list-few
+  | inr ne ↦ elim (cases-eq k 1) [
+    | inl e ↦ subst (Few 16) (sym (kind-mask k e)) mask-few
+    | inr no-one ↦ subst (Few 16) (sym (kind-blank k ne no-one)) blank-few
+  ]
+]
 
 few-more : (n k : ℕ) (L : Layers) → n ≤ k → Few n L → Few k L
 few-more n k L h f m c = omega (arith, f m c)
 
 under-few : (k : ℕ) (L : Layers) → Few 16 L → Few 18 (under k L)
 under-few k L f = elim (cases-eq k 0) [
-      inl e ↦ subst (Few 18) (sym (kept-none k L e)) (few-more 16 18 L (omega arith) f)
-      | inr ne ↦ elim (cases-eq k 1) [
-          inl e ↦ subst (Few 18) (sym (kept-one k L e)) (few-more 17 18 (keeping L) (omega arith) (keeping-few 16 L f))
-          | inr no-one ↦ subst (Few 18) (sym (kept-two k L ne no-one)) (keeping-few 17 (keeping L) (keeping-few 16 L f)) ] ]
+  | inl e ↦ subst (Few 18) (sym (kept-none k L e)) (few-more 16 18 L (omega arith) f)
+  | inr ne ↦ elim (cases-eq k 1) [
+    | inl e ↦ subst (Few 18) (sym (kept-one k L e)) (few-more 17 18 (keeping L) (omega arith) (keeping-few 16 L f))
+    | inr no-one ↦ subst (Few 18) (sym (kept-two k L ne no-one)) (keeping-few 17 (keeping L) (keeping-few 16 L f))
+  ]
+]
 
 pub named-few : (set : List ℕ) → Few 18 (named set)
 named-few set = under-few (wordAt set 4) (ofKind (wordAt set 2)) (kind-few (wordAt set 2))
@@ -134,8 +139,9 @@ module _ (table set : List ℕ) (low-table : (i : ℕ) → byteAt table i < 256)
 
   few-patterns : patternCount table < 65536
   few-patterns = elim (cases-eq (patternLinesN table) 0) [
-        inl z ↦ (let none : patternCount table ≡ 0 = simp (eq-eqb (patternLinesN table) 0 z) in omega arith)
-        | inr ne ↦ (let count : patternCount table ≡ numberOf table (patternLinesN table - 1) + 1 = simp (ne-eqb (patternLinesN table) 0 ne) in omega (arith, low-table (patternOffset table (patternLinesN table - 1)))) ]
+    | inl z ↦ (let none : patternCount table ≡ 0 = simp (eq-eqb (patternLinesN table) 0 z) in omega arith)
+    | inr ne ↦ (let count : patternCount table ≡ numberOf table (patternLinesN table - 1) + 1 = simp (ne-eqb (patternLinesN table) 0 ne) in omega (arith, low-table (patternOffset table (patternLinesN table - 1))))
+  ]
 
   outcomes-few : (r : Record) (x : Rule) (a : Action) → outcomes (claimUnder table set (named set)) r x a ≤ 18
   outcomes-few r x Local = omega arith
@@ -144,19 +150,35 @@ module _ (table set : List ℕ) (low-table : (i : ℕ) → byteAt table i < 256)
 
   all-fit : AllOf (λ f. Fits (numbers table f)) (order table set (claimUnder table set (named set)))
   all-fit =
-      let T = claimUnder table set (named set) in
-      ( ((place _ 0 (omega arith), ((λ i l. place _ (2 * i) (omega arith)), place _ 0 (omega arith))),
-          ((λ i l. place _ (machineOffset i) (omega (arith, table-word 2))),
-            ((λ r l. place _ (ruleOffset table r) (omega (arith, table-word 2, table-word 6))),
-              (λ l h. place _ (patternOffset table l) (omega (arith, table-word 2, table-word 6, table-word 8)))))),
-        (((place _ 0 (omega arith), ((λ i l. place _ (2 * i) (omega arith)), place _ 0 (omega arith))),
-            (λ k l. (place _ k (omega (arith, set-word 10)), place _ k (omega (arith, set-word 10))))),
-          (place _ 0 (omega arith),
+      let T = claimUnder table set (named set) in (
+        (
+          (place _ 0 (omega arith), ((λ i l. place _ (2 * i) (omega arith)), place _ 0 (omega arith))),
+          (
+            (λ i l. place _ (machineOffset i) (omega (arith, table-word 2))),
+            (
+              (λ r l. place _ (ruleOffset table r) (omega (arith, table-word 2, table-word 6))),
+              (λ l h. place _ (patternOffset table l) (omega (arith, table-word 2, table-word 6, table-word 8))),
+            ),
+          ),
+        ),
+        (
+          (
+            (place _ 0 (omega arith), ((λ i l. place _ (2 * i) (omega arith)), place _ 0 (omega arith))),
+            (λ k l. (place _ k (omega (arith, set-word 10)), place _ k (omega (arith, set-word 10)))),
+          ),
+          (
+            place _ 0 (omega arith),
             (λ k lk.
-              let few : k < 65536 = omega (arith, records-long (machinesN table) set, set-word 10) in
-              ((λ i li e le. record { a = omega arith; b = omega (arith, machines-long table, table-word 2); c = omega (arith, table-word 4) }),
-                ((λ p lp. record { a = omega arith; b = omega (arith, patterns-long table, few-patterns); c = omega arith }),
-                  (λ r lr c lc. record { a = omega arith; b = omega (arith, rules-long table, table-word 6); c = omega (arith, outcomes-few (recordOf T k) (ruleOf (systemOf table) r) (ruleOf (systemOf table) r .action)) }))))))) 
+                let few : k < 65536 = omega (arith, records-long (machinesN table) set, set-word 10) in (
+                  (λ i li e le. record { a = omega arith; b = omega (arith, machines-long table, table-word 2); c = omega (arith, table-word 4) }),
+                  (
+                    (λ p lp. record { a = omega arith; b = omega (arith, patterns-long table, few-patterns); c = omega arith }),
+                    (λ r lr c lc. record { a = omega arith; b = omega (arith, rules-long table, table-word 6); c = omega (arith, outcomes-few (recordOf T k) (ruleOf (systemOf table) r) (ruleOf (systemOf table) r .action)) }),
+                  ),
+                )),
+          ),
+        ),
+      )
 
   pub fault-fits : (f : Fault) → FirstFault (Applies table set (claimUnder table set (named set))) (numbers table) (order table set (claimUnder table set (named set))) f → Fits f
   fault-fits f h =

@@ -5,7 +5,6 @@ ghost use Rattle.table.specs.Bytes.{wordAt};
 ghost use Rattle.checker.specs.Promise.{Checked};
 ghost use Rattle.queue_check.specs.Packed.{packed, Fits, Answers};
 ghost use Rattle.queue_check.specs.Layers.{Layers, under, ofKind, named, claimUnder};
-
 use abstraction::QueueAbstraction;
 use blank_abstraction::BlankAbstraction;
 use blank_abstraction::BlankMeaning;
@@ -22,16 +21,27 @@ use table::bytes::word;
 
 // Where the header of a set names its abstraction, and how many layers keep a first event each.
 const KIND: usize = 2;
+
 const KEPT: usize = 4;
 
 // The check under as many layers over an abstraction as the set's header asks for.
-fn check_kept<'a, A: QueueAbstraction + Copy>(table: &'a [u8], set: &[u8], below: A) -> Result<Pass<'a>, Fault>
+fn check_kept<'a, A: QueueAbstraction + Copy>(
+    table: &'a [u8],
+    set: &[u8],
+    below: A,
+) -> Result<Pass<'a>, Fault>
     ensures { λ r. ⌜ Checked (now (table .entry)) (now (set .entry)) (claimUnder (now (table .entry)) (now (set .entry)) (under (wordAt (now (set .entry)) 4) (record { width = bits below; code = code below; removals = removals below }))) r ⌝ }
 {
     match word(set, KEPT) {
         0 => check(table, set, &below),
         1 => check(table, set, &KeepFirst { below }),
-        _ => check(table, set, &KeepFirst { below: KeepFirst { below } }),
+        _ => check(
+            table,
+            set,
+            &KeepFirst {
+                below: KeepFirst { below },
+            },
+        ),
     }
 }
 
@@ -51,7 +61,10 @@ fn pack(fault: Fault) -> u64
     requires { ⌜ Fits fault ⌝ }
     ensures { λ r. ⌜ r ≡ packed fault ⌝ }
 {
-    u64::from(fault.number.number()) + (u64::from(fault.a) << 8) + (u64::from(fault.b) << 32) + (fault.c << 48)
+    u64::from(fault.number.number())
+        + (u64::from(fault.a) << 8)
+        + (u64::from(fault.b) << 32)
+        + (fault.c << 48)
 }
 
 // The verdict as one number, for C: 0 for a pass, else the packed fault.

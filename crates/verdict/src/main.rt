@@ -5,6 +5,7 @@ use queue_check::check_files;
 use std::io;
 
 const MOST_TABLE_BYTES: u64 = 4_096;
+
 const MOST_SET_BYTES: u64 = 65_536;
 
 fn main(rt: LibcRuntime) -> io::Result<()> {
@@ -24,19 +25,21 @@ mod tests {
     use std::test::*;
 
     // A sender and a taker; without the taker's rule.
-    static TABLE: [u8; 32] =
-        [1, 0, 2, 0, 1, 0, 2, 0, 0, 0, 16, 0, 20, 0, 32, 0, 1, 0, 1, 0, 2, 0, 0, 0, 0, 1, 1, 1, 0, 0, 0, 0];
-    static NO_TAKE: [u8; 26] = [1, 0, 2, 0, 1, 0, 1, 0, 0, 0, 16, 0, 20, 0, 26, 0, 1, 0, 1, 0, 2, 0, 0, 0, 0, 1];
+    static TABLE: &[u8; 32] =
+        b"\x01\x00\x02\x00\x01\x00\x02\x00\x00\x00\x10\x00\x14\x00\x20\x00\x01\x00\x01\x00\x02\x00\x00\x00\x00\x01\x01\x01\x00\x00\x00\x00";
+
+    static NO_TAKE: &[u8; 26] =
+        b"\x01\x00\x02\x00\x01\x00\x01\x00\x00\x00\x10\x00\x14\x00\x1a\x00\x01\x00\x01\x00\x02\x00\x00\x00\x00\x01";
 
     // The records (0, 0; 0, 0) and (0, 0; 0, 1) of local states and codes; then only the one, then only the other.
-    static BOTH: [u8; 52] = [
-        1, 0, 0, 0, 0, 0, 2, 0, 1, 0, 2, 0, 16, 0, 0, 0, 0, 0, 0, 0, 0, 0, 0, 0, 0, 0, 0, 0, 0, 0, 0, 0, 0, 0, 0, 0, 0, 0, 0, 0, 0, 0, 0, 0, 1,
-        0, 0, 0, 0, 0, 0, 0,
-    ];
-    static FIRST: [u8; 34] =
-        [1, 0, 0, 0, 0, 0, 2, 0, 1, 0, 1, 0, 16, 0, 0, 0, 0, 0, 0, 0, 0, 0, 0, 0, 0, 0, 0, 0, 0, 0, 0, 0, 0, 0];
-    static SECOND: [u8; 34] =
-        [1, 0, 0, 0, 0, 0, 2, 0, 1, 0, 1, 0, 16, 0, 0, 0, 0, 0, 0, 0, 0, 0, 0, 0, 0, 0, 1, 0, 0, 0, 0, 0, 0, 0];
+    static BOTH: &[u8; 52] =
+        b"\x01\x00\x00\x00\x00\x00\x02\x00\x01\x00\x02\x00\x10\x00\x00\x00\x00\x00\x00\x00\x00\x00\x00\x00\x00\x00\x00\x00\x00\x00\x00\x00\x00\x00\x00\x00\x00\x00\x00\x00\x00\x00\x00\x00\x01\x00\x00\x00\x00\x00\x00\x00";
+
+    static FIRST: &[u8; 34] =
+        b"\x01\x00\x00\x00\x00\x00\x02\x00\x01\x00\x01\x00\x10\x00\x00\x00\x00\x00\x00\x00\x00\x00\x00\x00\x00\x00\x00\x00\x00\x00\x00\x00\x00\x00";
+
+    static SECOND: &[u8; 34] =
+        b"\x01\x00\x00\x00\x00\x00\x02\x00\x01\x00\x01\x00\x10\x00\x00\x00\x00\x00\x00\x00\x00\x00\x00\x00\x00\x00\x01\x00\x00\x00\x00\x00\x00\x00";
 
     fn numbers(table: &[u8], set: &[u8]) -> (u8, u32, u16, u64) {
         match check_files(table, set) {
@@ -51,21 +54,21 @@ mod tests {
 
     #[test]
     fn a_record_missing() -> Result<(), Fail> {
-        check_eq(numbers(&TABLE, &BOTH), (0, 0, 0, 0))?;
-        check_eq(numbers(&TABLE, &FIRST), (11, 0, 0, 0))?;
-        check_eq(numbers(&TABLE, &SECOND), (8, 0, 0, 0))
+        check_eq(numbers(TABLE, BOTH), (0, 0, 0, 0))?;
+        check_eq(numbers(TABLE, FIRST), (11, 0, 0, 0))?;
+        check_eq(numbers(TABLE, SECOND), (8, 0, 0, 0))
     }
 
     #[test]
     fn a_rule_missing() -> Result<(), Fail> {
-        check_eq(numbers(&NO_TAKE, &BOTH), (9, 1, 1, 0))
+        check_eq(numbers(NO_TAKE, BOTH), (9, 1, 1, 0))
     }
 
     #[test]
     fn packed() -> Result<(), Fail> {
-        check_eq(queue_check(&TABLE, &BOTH), 0)?;
-        check_eq(queue_check(&NO_TAKE, &BOTH), 9 + 256 + 4_294_967_296)?;
-        check_eq(queue_check(&TABLE, &[]), 4)?;
-        check_eq(queue_check(&[], &BOTH), 1)
+        check_eq(queue_check(TABLE, BOTH), 0)?;
+        check_eq(queue_check(NO_TAKE, BOTH), 9 + 256 + 4_294_967_296)?;
+        check_eq(queue_check(TABLE, &[]), 4)?;
+        check_eq(queue_check(&[], BOTH), 1)
     }
 }

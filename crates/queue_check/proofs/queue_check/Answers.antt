@@ -13,4 +13,5 @@ returns-in-Err c =
       result = Err (c .in-Err .fault);
       checked = c .in-Err .ensures tt;
       is = c .pack .ensures;
-      fits = fault-fits (c .args .table .now) (c .args .set .now) (λ i. c .typed .table i .fits) (λ i. c .typed .set i .fits) (c .in-Err .fault) (c .in-Err .ensures tt .1) }
+      fits = fault-fits (c .args .table .now) (c .args .set .now) (λ i. c .typed .table i .fits) (λ i. c .typed .set i .fits) (c .in-Err .fault) (c .in-Err .ensures tt .1);
+    }
