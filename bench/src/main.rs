@@ -2,6 +2,9 @@
 
 mod cases;
 mod clock;
+mod fuzz;
+mod guarded;
+mod pairs;
 mod random;
 mod subject;
 mod system;
@@ -11,28 +14,42 @@ mod workload;
 use std::error::Error;
 use std::path::Path;
 use std::process::ExitCode;
+use system::Layers;
+use workload::Base;
 
-const USAGE: &str = "usage: bench cases FOLDER | fuzz COUNT SEED | time";
+const USAGE: &str = "usage: bench cases FOLDER
+       bench fuzz COUNT SEED
+       bench pairs COUNT SEED
+       bench time
+       bench search KIND KEPT MACHINES STATES STAGES TRIES";
 
+/// True if nothing differs from what is expected.
 fn run(arguments: &[&str]) -> Result<bool, Box<dyn Error>> {
     match arguments {
-        ["cases", folder] => cases::run(Path::new(folder)),
+        ["cases", folder] => {
+            subject::announce();
+            cases::run(Path::new(folder))
+        }
+        ["fuzz", count, seed] => {
+            subject::announce();
+            Ok(fuzz::run(count.parse()?, seed.parse()?))
+        }
+        ["pairs", count, seed] => {
+            fuzz::write(count.parse()?, seed.parse()?)?;
+            Ok(true)
+        }
         ["time"] => {
+            subject::announce();
             timing::run();
             Ok(true)
         }
-        ["search", kind, kept, machines, wanted, stages, tries] => {
-            let layers = system::Layers { kind: kind.parse()?, kept: kept.parse()? };
-            println!(
-                "{:?}",
-                workload::search(
-                    layers,
-                    workload::Base::Machines(machines.parse()?),
-                    wanted.parse()?,
-                    stages.parse()?,
-                    tries.parse()?
-                )
-            );
+        ["search", kind, kept, machines, states, stages, tries] => {
+            let layers = Layers { kind: kind.parse()?, kept: kept.parse()? };
+            let base = Base::Machines(machines.parse()?);
+            match workload::search(layers, base, states.parse()?, stages.parse()?, tries.parse()?) {
+                Some((seed, lacking)) => println!("seed {seed}, stages {lacking}"),
+                None => println!("none"),
+            }
             Ok(true)
         }
         _ => Err(USAGE.into()),
@@ -42,7 +59,6 @@ fn run(arguments: &[&str]) -> Result<bool, Box<dyn Error>> {
 fn main() -> ExitCode {
     let arguments: Vec<String> = std::env::args().skip(1).collect();
     let arguments: Vec<&str> = arguments.iter().map(String::as_str).collect();
-    subject::announce();
     match run(&arguments) {
         Ok(true) => ExitCode::SUCCESS,
         Ok(false) => ExitCode::FAILURE,

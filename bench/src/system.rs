@@ -195,10 +195,15 @@ pub struct Closure {
 impl Closure {
     /// The set file.
     pub fn bytes(&self) -> Vec<u8> {
+        self.with_records(&self.records)
+    }
+
+    /// A set file of the same header, but for the count, with other records.
+    pub fn with_records(&self, records: &[Vec<u8>]) -> Vec<u8> {
         let Layers { kind, kept } = self.layers;
-        let header = [1, kind.into(), kept.into(), self.machines, self.events.into(), self.records.len(), 16, 0];
+        let header = [1, kind.into(), kept.into(), self.machines, self.events.into(), records.len(), 16, 0];
         let mut bytes: Vec<u8> = header.iter().flat_map(|&field| (field as u16).to_le_bytes()).collect();
-        bytes.extend(self.records.iter().flatten());
+        bytes.extend(records.iter().flatten());
         bytes
     }
 }
