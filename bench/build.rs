@@ -1,11 +1,11 @@
-//! Links the proved static library: SANUVEZH_LIB, or target/staticlib/libchecker.a of this repository where it stands.
+//! Links the proved static library: SANUVEZH_LIB, or target/staticlib/libqueue_check.a of this repository where it stands.
 //! With SANUVEZH_LIB=none, or where no library stands, the native implementation takes its place.
 
 use std::path::PathBuf;
 
 fn main() {
     let here = PathBuf::from(std::env::var("CARGO_MANIFEST_DIR").expect("set by cargo"));
-    let usual = here.join("../target/staticlib/libchecker.a");
+    let usual = here.join("../target/staticlib/libqueue_check.a");
     println!("cargo::rustc-check-cfg=cfg(subject)");
     println!("cargo::rerun-if-env-changed=SANUVEZH_LIB");
     println!("cargo::rerun-if-changed={}", usual.display());

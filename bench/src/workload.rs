@@ -140,7 +140,8 @@ fn add_patterns(system: &mut System, random: &mut Random) {
 }
 
 impl Plan {
-    pub fn make(&self) -> Workload {
+    /// The workload, each rule standing `repeats` times in the table.
+    pub fn make(&self, repeats: usize) -> Workload {
         let mut random = Random::new(self.seed);
         let (mut system, _) = draw(self.layers, self.base, &mut random, 65_535).expect("a seed found by the search");
         add_stages(&mut system, self.stages);
@@ -150,6 +151,7 @@ impl Plan {
         add_patterns(&mut system, &mut random);
         random.shuffle(&mut system.rules);
         let closure = system.closure(self.layers, 65_536);
+        system.rules = system.rules.repeat(repeats);
         let (table, set) = (system.bytes(), closure.bytes());
         assert_eq!(native::queue_check(&table, &set), 0, "a closed set passes");
         Workload {
