@@ -1,10 +1,9 @@
 /* Runs queue_check on pairs of files from standard input (see `bench pairs`), each in memory of its exact length, and
    compares with the answer that comes with it. Built with address and undefined-behaviour sanitizers: README.md. */
-#include <stdint.h>
+#include "queue_check.h"
+
 #include <stdio.h>
 #include <stdlib.h>
-
-extern uint64_t queue_check(const uint8_t *table, size_t table_len, const uint8_t *set, size_t set_len);
 
 /* False at the end of the input. */
 static int read_all(void *to, size_t length) { return fread(to, 1, length, stdin) == length; }

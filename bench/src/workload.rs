@@ -1,9 +1,9 @@
 //! Tables whose closed sets have a wanted number of records, and those sets.
 //!
 //! A base of machines that send, take and move is drawn at random and completed: wherever a machine could be surprised,
-//! it gets a rule that takes the event. Two fittings then bring the number of states to the wanted one: stages that
-//! machine 0 goes through before anything else can happen (each adds one state), and meters, machines that only go around
-//! (each multiplies).
+//! it gets a rule that takes the event. Two fittings then bring the number of states to the wanted one: stages that its
+//! first machine goes through before anything else can happen (each adds one state), and meters, machines that only go
+//! around (each multiplies). Meters come first, so that a set is a number of blocks, each sorted as the base's own set.
 
 use crate::random::Random;
 use crate::system::{ANY, EMPTY, LOCAL, Layers, Line, Rule, SEND, System, TAKE};
@@ -100,7 +100,7 @@ fn draw_rules(system: &mut System, random: &mut Random, machine: usize, from: u8
     }
 }
 
-/// Machine 0 goes through `stages` new local states first.
+/// The first machine goes through `stages` new local states first.
 fn add_stages(system: &mut System, stages: u8) {
     system.locals[0] += stages;
     for rule in &mut system.rules {
@@ -112,13 +112,16 @@ fn add_stages(system: &mut System, stages: u8) {
     system.rules.extend((0..stages).map(|stage| rule(LOCAL, 0, stage, stage + 1, 0, 0)));
 }
 
-/// A machine that goes around in its first `locals` local states.
+/// A machine before all others that goes around in its first `locals` local states.
 fn add_meter(system: &mut System, locals: u8) {
-    let machine = system.locals.len();
-    system.locals.push(METER_LOCALS);
+    system.locals.insert(0, METER_LOCALS);
+    for rule in &mut system.rules {
+        rule.machine += 1;
+        rule.target += u8::from(rule.kind == SEND);
+    }
     system.rules.extend((0..METER_LOCALS).map(|from| {
         let to = if from + 1 < locals { from + 1 } else { 0 };
-        rule(LOCAL, machine, from, to, 0, 0)
+        rule(LOCAL, 0, from, to, 0, 0)
     }));
 }
 
