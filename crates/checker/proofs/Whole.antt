@@ -10,7 +10,7 @@ use Rattle.table.specs.Layout.{machines_n}
 use Rattle.table.specs.Reading.{Reads, Refuses}
 use Rattle.table.specs.Findings as reading
 use Rattle.table.specs.SystemOf.{system_of}
-use Rattle.table.proofs.Wholesome.{reads-well-formed, some_machines, few_machines, few_events, few_rules, few_lines, line-machine}
+use Rattle.table.proofs.Wholesome.{reads_well_formed, some_machines, few_machines, few_events, few_rules, few_lines, line_machine}
 use Rattle.table.proofs.Stable.{stable_eq}
 use Rattle.closed_sets.specs.Records.{Claim, Closed, Represented, Sound, record_of}
 use Rattle.closed_sets.specs.Judging as judging
@@ -29,8 +29,8 @@ reads_ready bs r = record {
   events = few_events bs r;
   rules = few_rules bs r;
   lines = few_lines bs r;
-  named = line-machine bs r;
-  proper = reads-well-formed bs r;
+  named = line_machine bs r;
+  proper = reads_well_formed bs r;
 }
 
 pub closed_if : (T : Claim) → Means T → WellFormed T.system → SoundAll T → Represented T (start T.system) → (r : Result (Unit {0}) Fault) → judging.Judged T (judging.judged T) r → IfOk r (λ _. Closed T)

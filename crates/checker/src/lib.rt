@@ -1,6 +1,4 @@
 // The check of a table against a state set, under a queue abstraction.
-#![tactic(auto)]
-
 pub mod check;
 mod form;
 mod held;

@@ -64,4 +64,4 @@ module _ (T : Claim) where
         )
 
     pub queue_set : (s : State) (i l : ℕ) (Q : List ℕ) → IsState T.system s → i < machines T.system → queue_at (set s i (l, Q)) i ≡ Q
-    queue-set s i l Q is h = ap (λ (x : ℕ × List ℕ). x.1) (get_or-set_same s i (l, Q) (0, []) (omega (arith, is.entries)))
+    queue_set s i l Q is h = ap (λ (x : ℕ × List ℕ). x.1) (get_or-set_same s i (l, Q) (0, []) (omega (arith, is.entries)))

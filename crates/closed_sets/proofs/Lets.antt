@@ -8,7 +8,7 @@ use Rattle.model.specs.System.{System, machines, Rise, ConditionFits}
 use Rattle.model.specs.declared.pattern.Condition.{Condition}
 use Rattle.model.specs.declared.queue.Front.TheVariants.{Event}
 use Rattle.abstraction.proofs.Masks.{covers_zero}
-use Rattle.closed_sets.proofs.Chosen.{local_is, code_is, as_long, chosen, requeued, queue-set}
+use Rattle.closed_sets.proofs.Chosen.{local_is, code_is, as_long, chosen, requeued, queue_set}
 use Rattle.closed_sets.specs.Codes.{MaySurprise, MayHold, MayMeet, SurpriseLets, PatternLets}
 use Rattle.closed_sets.specs.Records.{Claim, Record, code_in, local_in, codes, Sound, Lets}
 
@@ -38,11 +38,11 @@ module _ (T : Claim) (r : Record) (sound : Sound T r) where
         state = s;
         is = re.0;
         coded = re.1;
-        so = record { machine = h; rest = b.0; front = queue-set T r sound s0.0 i (local_at s0.0 i) Q s0.1 h ∙ b.1; no_take = subst (λ (l : ℕ). NoTake T.system i l e) (sym (local_is T s r i re.1 len)) none };
+        so = record { machine = h; rest = b.0; front = queue_set T r sound s0.0 i (local_at s0.0 i) Q s0.1 h ∙ b.1; no_take = subst (λ (l : ℕ). NoTake T.system i l e) (sym (local_is T s r i re.1 len)) none };
       }
 
   surprise_from : (i e : ℕ) → i < machines T.system → Lets T r (λ s. Surprised T.system s i e) → MaySurprise T r i e
-  surprise-from i e h lets =
+  surprise_from i e h lets =
       let s = lets.state in
       let len : i < length s = omega (arith, lets.is.entries) in (
         record { valid = (sound.good i h).valid; queue = queue_at s i; over = lets.is.queues i h; coded = code_is T s r i lets.coded len; begins = subst (Begins (Event e)) (sym lets.so.front) refl; covers = covers_zero (queue_at s i) },
@@ -67,7 +67,7 @@ module _ (T : Claim) (r : Record) (sound : Sound T r) where
       let s = set s0.0 i v in
       let re = requeued T r sound s0.0 i Q s0.1 s0.2 rise.1 h.1.over h.1.coded in
       let len : i < length s = omega (arith, re.0.entries, rise.1) in
-      let q = sym (queue-set T r sound s0.0 i (local_at s0.0 i) Q s0.1 rise.1) in (
+      let q = sym (queue_set T r sound s0.0 i (local_at s0.0 i) Q s0.1 rise.1) in (
         s,
         re.0,
         re.1,
@@ -78,23 +78,23 @@ module _ (T : Claim) (r : Record) (sound : Sound T r) where
       )
 
   met_from : (s : State) → IsState T.system s → codes T s ≡ r → (low : ℕ) (p : List Condition) → Ordered (machines T.system) low p → Met s p → MayMeet T r p
-  met-from s is e low [] rise m = tt
-  met-from s is e low (c ∷ p) rise m =
+  met_from s is e low [] rise m = tt
+  met_from s is e low (c ∷ p) rise m =
       let i = c.machine in
       let len : i < length s = omega (arith, is.entries, rise.1) in (
         (
           subst (LocalIs c.local) (local_is T s r i e len) m.0.0,
           record { valid = (sound.good i rise.1).valid; queue = queue_at s i; over = is.queues i rise.1; coded = code_is T s r i e len; begins = m.0.1; covers = m.0.2 },
         ),
-        met-from s is e (suc i) p rise.2 m.1,
+        met_from s is e (suc i) p rise.2 m.1,
       )
 
 pub surprise_lets : SurpriseLets
-surprise_lets T law r sound i e h = (surprise_to T r sound i e h, surprise-from T r sound i e h)
+surprise_lets T law r sound i e h = (surprise_to T r sound i e h, surprise_from T r sound i e h)
 
 pub pattern_lets : PatternLets
 pattern_lets T law r sound p fits =
     let rise = ordered T.system 0 p fits.fit fits.rise in (
       (λ m. let x = meets T r sound 0 p rise m in record { state = x.0; is = x.1; coded = x.2; so = x.3 }),
-      (λ l. met-from T r sound l.state l.is l.coded 0 p rise l.so),
+      (λ l. met_from T r sound l.state l.is l.coded 0 p rise l.so),
     )

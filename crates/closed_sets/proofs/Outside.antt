@@ -11,7 +11,7 @@ use Rattle.model.specs.declared.rule.Action.{Action}
 use Rattle.model.specs.declared.rule.Action.TheVariants.{Local, Take, Send}
 use Rattle.model.specs.declared.rule.Rule.{Rule}
 use Rattle.abstraction.proofs.Nth.{some_same}
-use Rattle.closed_sets.proofs.Chosen.{local_is, code_is, as_long, codes_set, chosen, requeued, queue-set}
+use Rattle.closed_sets.proofs.Chosen.{local_is, code_is, as_long, codes_set, chosen, requeued, queue_set}
 use Rattle.closed_sets.specs.Codes.{moved_in, sent_in, Appends, Leads, OutsideLets, OutsideNot}
 use Rattle.closed_sets.specs.Judging.{Leaves, Numbered}
 use Rattle.closed_sets.specs.Records.{Claim, Record, code_in, local_in, codes, Listed, Sound, Lets}
@@ -21,7 +21,7 @@ module _ (T : Claim) (law : Means T) (r : Record) (sound : Sound T r) (x : Rule)
   -- the queues are as they were
   queue_kept : (s : State) (j : ℕ) → IsState T.system s → queue_at (moved x (queue_at s x.machine) s) j ≡ queue_at s j
   queue_kept s j is = elim (cases_eq j x.machine) [
-    | inl e ↦ ap (queue_at (moved x (queue_at s x.machine) s)) e ∙ queue-set T r sound s x.machine x.to _ is f.machine ∙ ap (queue_at s) (sym e)
+    | inl e ↦ ap (queue_at (moved x (queue_at s x.machine) s)) e ∙ queue_set T r sound s x.machine x.to _ is f.machine ∙ ap (queue_at s) (sym e)
     | inr ne ↦ ap (λ (z : ℕ × List ℕ). z.1) (get_or-set_other s x.machine j _ (0, []) ne)
   ]
 
@@ -54,12 +54,12 @@ module _ (T : Claim) (law : Means T) (r : Record) (sound : Sound T r) (x : Rule)
       let m = law.removed T.system.events (code_in r i) c v d at in
       let re = requeued T r sound s0.0 i (v ∷ m.queue) s0.1 s0.2 f.machine (m.event, m.over) m.before in
       let s = set s0.0 i (local_at s0.0 i, v ∷ m.queue) in
-      let qt = queue-set T r sound s i x.to m.queue re.0 f.machine in (
+      let qt = queue_set T r sound s i x.to m.queue re.0 f.machine in (
         s,
         moved x m.queue s,
         re.0,
         re.1,
-        (m.queue, queue-set T r sound s0.0 i (local_at s0.0 i) (v ∷ m.queue) s0.1 f.machine, refl),
+        (m.queue, queue_set T r sound s0.0 i (local_at s0.0 i) (v ∷ m.queue) s0.1 f.machine, refl),
         at ∙ ap (λ (z : ℕ). Some (v, z)) (sym m.after ∙ ap (T.code T.system.events) (sym qt)),
         codes_set T s r i x.to m.queue d re.1 m.after ∙ sym e,
       )
@@ -80,7 +80,7 @@ module _ (T : Claim) (law : Means T) (r : Record) (sound : Sound T r) (x : Rule)
       let ls : x.machine < length s = omega (arith, is.entries, f.machine) in
       (z, ap (codes T) h ∙ codes_set T s r x.machine x.to _ _ e (code_is T s r x.machine e ls))
   leads (Take v) n c s t is e (Q, q, h) at =
-      let qt : queue_at t x.machine ≡ Q = ap (λ (z : State). queue_at z x.machine) h ∙ queue-set T r sound s x.machine x.to Q is f.machine in
+      let qt : queue_at t x.machine ≡ Q = ap (λ (z : State). queue_at z x.machine) h ∙ queue_set T r sound s x.machine x.to Q is f.machine in
       (_, at, ap (codes T) h ∙ codes_set T s r x.machine x.to Q _ e (ap (T.code T.system.events) (sym qt)))
   leads (Send v d) n c s t is e h z =
       let lt : d < length s = omega (arith, is.entries, n.1) in (
@@ -115,12 +115,12 @@ module _ (T : Claim) (law : Means T) (r : Record) (sound : Sound T r) (x : Rule)
       record { state = y.0; is = y.2; coded = y.3; so = record { to = y.1; makes = (local_is T y.0 r x.machine y.3 ls ∙ from, y.4); numbered = y.5; out = λ l. absent (subst (Listed T) y.6 l) } }
 
   pub outside_from : (c : ℕ) (q : Record) → Leads T x x.action r c q → Lets T r (Leaves T r x c) → Listed T q → ⊥
-  outside-from c q h l listed =
+  outside_from c q h l listed =
       let g = leads x.action f.action c l.state l.so.to l.is l.coded l.so.makes.1 l.so.numbered in
       l.so.out (subst (Listed T) (only x.action f.action c q _ h g) listed)
 
 pub outside_lets : OutsideLets
-outside_lets T law r sound x f c q from h = (outside_to T law r sound x f c q from h, outside-from T law r sound x f c q h)
+outside_lets T law r sound x f c q from h = (outside_to T law r sound x f c q from h, outside_from T law r sound x f c q h)
 
 pub outside_not : OutsideNot
 outside_not T law r sound x f c l = leads_from T law r sound x f c l

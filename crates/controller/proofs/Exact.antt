@@ -94,7 +94,7 @@ module _ (S : System) (cap : ℕ) (s : State) (r : ℕ) where
 
   -- the same of an answer and a state that are the reference's
   pub exact_at : (t : State) (a : Result (Unit {0}) Fault) → a ≡ fired r (refusal S cap s r) → t ≡ next S cap s (Fire r) → Fires S cap r s t a
-  exact-at t a ea et = subst (λ (v : State). Fires S cap r s v a) (sym et) (subst (λ (b : Result (Unit {0}) Fault). Fires S cap r s (next S cap s (Fire r)) b) (sym ea) exact)
+  exact_at t a ea et = subst (λ (v : State). Fires S cap r s v a) (sym et) (subst (λ (b : Result (Unit {0}) Fault). Fires S cap r s (next S cap s (Fire r)) b) (sym ea) exact)
 
 pub exact_steps : (S : System) → ExactSteps S
 exact_steps S cap r s = exact S cap s r

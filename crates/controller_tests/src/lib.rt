@@ -1,6 +1,4 @@
 // Rehearsals of a sender and a taker, from the bytes of the files to the answers.
-#![tactic(auto)]
-
 #[cfg(test)]
 mod tests {
     use controller::call::{Answer, Call};

@@ -1,6 +1,4 @@
 // Prints how the file `table` reads, or why it is refused.
-#![tactic(auto)]
-
 use files::read_at_most;
 use std::io;
 use table::view::Table;

@@ -42,12 +42,12 @@ module _ (w : ℕ) (code : ℕ → List ℕ → ℕ) where
       record { valid = valid_below w g.valid; queue = R; over = o; coded = (parts m c e b f R g.valid.few l k p q).1 }
 
   pub good_parts : (m c : ℕ) → (c ≢ 0) → Split (keep_bits w) m c None → Good (keep_bits w) (keep_code code) m c → ⊥
-  good-parts m c z s g =
+  good_parts m c z s g =
       let (f, R, _, k, o, q) = first_of m c g.queue z g.over g.coded in
       s f (code m R) g.valid k q
 
   pub append_up : (m c e f b d : ℕ) → Valid m (keep_bits w) → f < m → c ≡ 16 * b + f + 1 → Appended w code m b e (Some d) → Appended (keep_bits w) (keep_code code) m c e (Some (16 * d + f + 1))
-  append-up m c e f b d v l p a = (good_up m c f b v l p a.0, a.1, to)
+  append_up m c e f b d v l p a = (good_up m c f b v l p a.0, a.1, to)
     where
       to : (Q : List ℕ) → Over m Q → keep_code code m Q ≡ c → keep_code code m (Q ++ e ∷ []) ≡ 16 * d + f + 1
       to [] o q = absurd (omega arith)
@@ -57,11 +57,11 @@ module _ (w : ℕ) (code : ℕ → List ℕ → ℕ) where
           omega (arith, s.0, t)
 
   pub append_small : {removals : ℕ → ℕ → List (ℕ × ℕ)} → Meaning w code removals → (m b e d : ℕ) → Appended w code m b e (Some d) → d < 2 ^ w
-  append-small law m b e d (g, l, to) =
+  append_small law m b e d (g, l, to) =
       subst (λ (x : ℕ). x < 2 ^ w) (to g.queue g.over g.coded) (law.small m (g.queue ++ e ∷ []) g.valid (over_append m e g.queue g.over l))
 
   pub allow_none : (m mask : ℕ) (front : Front) → Valid m (keep_bits w) → mask < 256 → ((e : ℕ) → front ≢ Event e) → Decides (mask == 0) (Allowed (keep_bits w) (keep_code code) m 0 front mask)
-  allow-none m mask front v low ne = (λ t. record { valid = v; queue = []; over = tt; coded = refl; begins = begin front ne; covers = subst (λ (x : ℕ). Covers x []) (sym (eqb-true mask 0 t)) (covers_zero []) }, λ a. eq-eqb mask 0 (none a.queue a.coded a.covers))
+  allow_none m mask front v low ne = (λ t. record { valid = v; queue = []; over = tt; coded = refl; begins = begin front ne; covers = subst (λ (x : ℕ). Covers x []) (sym (eqb-true mask 0 t)) (covers_zero []) }, λ a. eq-eqb mask 0 (none a.queue a.coded a.covers))
     where
       begin : (front : Front) → ((e : ℕ) → front ≢ Event e) → Begins front []
       begin Any ne = tt
@@ -73,13 +73,13 @@ module _ (w : ℕ) (code : ℕ → List ℕ → ℕ) where
       none (e ∷ Q) p h = absurd (omega arith)
 
   pub allow_parts : (m c mask : ℕ) (front : Front) → (c ≢ 0) → Split (keep_bits w) m c None → Allowed (keep_bits w) (keep_code code) m c front mask → ⊥
-  allow-parts m c mask front z s a = good-parts m c z s (record { valid = a.valid; queue = a.queue; over = a.over; coded = a.coded })
+  allow_parts m c mask front z s a = good_parts m c z s (record { valid = a.valid; queue = a.queue; over = a.over; coded = a.coded })
 
   pub allow_up : (m c e b mask rest : ℕ) (front : Front) (r : Bool) → Valid m (keep_bits w) → e < m → c ≡ 16 * b + e + 1
       → ((f : ℕ) → (Bit rest f → (f ≢ e) × Bit mask f) × (Bit mask f → (f ≢ e) → Bit rest f))
       → ((Q : List ℕ) → Begins front (e ∷ Q))
       → Decides r (Allowed w code m b Any rest) → Decides r (Allowed (keep_bits w) (keep_code code) m c front mask)
-  allow-up m c e b mask rest front r v l p cut begin d = (λ t. up (d.0 t), λ a. d.1 (down a))
+  allow_up m c e b mask rest front r v l p cut begin d = (λ t. up (d.0 t), λ a. d.1 (down a))
     where
       up : Allowed w code m b Any rest → Allowed (keep_bits w) (keep_code code) m c front mask
       up a = record {
@@ -151,7 +151,7 @@ module _ (w : ℕ) (code : ℕ → List ℕ → ℕ) (removals : ℕ → ℕ →
           }
 
   pub keep_removes : (m c e d : ℕ) → Removal (keep_bits w) (keep_code code) m c e d → (k : ℕ) × (slice_get (keep_removals w code removals m c) k ≡ Some (e, d))
-  keep-removes m c e d r = go r.queue r.over r.after r.before
+  keep_removes m c e d r = go r.queue r.over r.after r.before
     where
       go : (Q : List ℕ) → Over m Q → keep_code code m Q ≡ d → 16 * code m Q + e + 1 ≡ c → (k : ℕ) × (slice_get (keep_removals w code removals m c) k ≡ Some (e, d))
       go [] o p q = (
@@ -172,7 +172,7 @@ module _ (w : ℕ) (code : ℕ → List ℕ → ℕ) (removals : ℕ → ℕ →
           )
 
   pub keep_once : (m c k j : ℕ) (x : ℕ × ℕ) → slice_get (keep_removals w code removals m c) k ≡ Some x → slice_get (keep_removals w code removals m c) j ≡ Some x → k ≡ j
-  keep-once m c k j x h i =
+  keep_once m c k j x h i =
       let (e, b, v, l, p, n) = keep_begun m c k x h in
       let n' : slice_get (keep_taken code removals m e b) j ≡ Some x = ap (λ (y : List (ℕ × ℕ)). slice_get y j) (sym (keep_at m c e b v l p)) ∙ i in
       let at = nth_before ((code m []) == b) (e, 0) (map (kept e) (removals m b)) in
@@ -200,35 +200,35 @@ module _ (w : ℕ) (code : ℕ → List ℕ → ℕ) (removals : ℕ → ℕ →
           law.once m b k j z (n1 ∙ ap Some t) n2
 
   pub keep_small : (m : ℕ) (Q : List ℕ) → Valid m (keep_bits w) → Over m Q → keep_code code m Q < 2 ^ keep_bits w
-  keep-small m [] v o = lt_of_lt_of_le (omega arith) (pow_mono {i = 0} {j = keep_bits w} (omega arith))
-  keep-small m (e ∷ Q) v o =
+  keep_small m [] v o = lt_of_lt_of_le (omega arith) (pow_mono {i = 0} {j = keep_bits w} (omega arith))
+  keep_small m (e ∷ Q) v o =
       let s = law.small m Q (valid_below w v) o.1 in
       let b : keep_bits w ≡ 4 + w = omega arith in
       let t : 2 ^ keep_bits w ≡ 2 ^ 4 * 2 ^ w = ap (λ (x : ℕ). 2 ^ x) b ∙ pow-add 2 4 w in
       omega (arith, t, o.0)
 
   pub keep_appends : (m e : ℕ) (Q R : List ℕ) → Valid m (keep_bits w) → e < m → Over m Q → Over m R → keep_code code m Q ≡ keep_code code m R → keep_code code m (Q ++ e ∷ []) ≡ keep_code code m (R ++ e ∷ [])
-  keep-appends m e [] [] v l o u p = refl
-  keep-appends m e [] (g ∷ R) v l o u p = absurd (omega arith)
-  keep-appends m e (f ∷ Q) [] v l o u p = absurd (omega arith)
-  keep-appends m e (f ∷ Q) (g ∷ R) v l o u p =
+  keep_appends m e [] [] v l o u p = refl
+  keep_appends m e [] (g ∷ R) v l o u p = absurd (omega arith)
+  keep_appends m e (f ∷ Q) [] v l o u p = absurd (omega arith)
+  keep_appends m e (f ∷ Q) (g ∷ R) v l o u p =
       let c : code m Q ≡ code m R = omega (arith, o.0, u.0) in
       let d : f ≡ g = omega (arith, o.0, u.0) in
       omega (arith, law.appends m e Q R (valid_below w v) l o.1 u.1 c)
 
   pub keep_meaning : Meaning (keep_bits w) (keep_code code) (keep_removals w code removals)
   keep_meaning = record {
-    small = keep-small;
+    small = keep_small;
     start = λ m. refl;
-    appends = keep-appends;
+    appends = keep_appends;
     removed = keep_removed;
-    removes = keep-removes;
-    once = keep-once;
+    removes = keep_removes;
+    once = keep_once;
   }
 
   -- the removals below, from the place of the layer's
   pub keep_nth : (m c e b k at : ℕ) → Valid m (keep_bits w) → e < m → c ≡ 16 * b + e + 1 → k ≡ cond ((code m []) == b) (suc at) at → slice_get (keep_removals w code removals m c) k ≡ slice_get (map (kept e) (removals m b)) at
-  keep-nth m c e b k at v l p q =
+  keep_nth m c e b k at v l p q =
       ap (λ (x : List (ℕ × ℕ)). slice_get x k) (keep_at m c e b v l p)
       ∙ ap (slice_get (keep_taken code removals m e b)) q
       ∙ nth_behind ((code m []) == b) (e, 0) (map (kept e) (removals m b)) at

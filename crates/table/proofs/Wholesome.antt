@@ -90,7 +90,7 @@ module _ (bs : List ℕ) (reads : Reads bs) where
       }
 
   rules_fit : (r : ℕ) → r < length (system_of bs).rules → RuleFits (system_of bs) (rule_of (system_of bs) r)
-  rules-fit r h =
+  rules_fit r h =
       let l : r < rules_n bs = omega (arith, rules_long bs) in
       subst (RuleFits (system_of bs)) (sym (rule_at_lem bs r l)) (rule_fits (rule_offset bs r) (reads.1.1.0 r l))
 
@@ -98,7 +98,7 @@ module _ (bs : List ℕ) (reads : Reads bs) where
   line_good = reads.1.1.1
 
   pub line_machine : (l : ℕ) → l < pattern_lines_n bs → byte_at bs (pattern_offset bs l + 1) < machines_n bs
-  line-machine l h = stable_lt (byte_at bs (pattern_offset bs l + 1)) (machines_n bs) (part (λ q. q.1.0) (line-good l h))
+  line_machine l h = stable_lt (byte_at bs (pattern_offset bs l + 1)) (machines_n bs) (part (λ q. q.1.0) (line_good l h))
 
   local_fits : (n l : ℕ) → (((l < n) ⊎ (l ≡ 255) → ⊥) → ⊥) → LocalFits n (local_of l)
   local_fits n l good = elim (cases_eq l 255) [
@@ -117,7 +117,7 @@ module _ (bs : List ℕ) (reads : Reads bs) where
   ]
 
   condition_fits : (o : ℕ) → ((GoodConditionAt bs o → ⊥) → ⊥) → ConditionFits (system_of bs) (condition_at bs o)
-  condition-fits o good =
+  condition_fits o good =
       let m = byte_at bs (o + 1) in
       let there : m < machines_n bs = stable_lt m (machines_n bs) (part (λ q. q.0) good) in
       record {
@@ -145,7 +145,7 @@ module _ (bs : List ℕ) (reads : Reads bs) where
 
   goes_on : (l : ℕ) → l + 1 < pattern_lines_n bs → GoesOn l
   goes_on l h =
-      let good = part {P = GoesOn l} (λ q. followed l q.0) (line-good (l + 1) h) in
+      let good = part {P = GoesOn l} (λ q. followed l q.0) (line_good (l + 1) h) in
       elim (cases_eq (number_of bs (l + 1)) (number_of bs l + 1)) [
         | inl e ↦ inr e
         | inr ne ↦ inl (
@@ -155,7 +155,7 @@ module _ (bs : List ℕ) (reads : Reads bs) where
       ]
 
   begins : 0 < pattern_lines_n bs → number_of bs 0 ≡ 0
-  begins h = stable_eq (number_of bs 0) 0 (part (λ q. elim q.0 [ inl x ↦ x.1 | inr y ↦ elim y [ inl x ↦ absurd (omega (arith, x.0)) | inr x ↦ absurd (omega (arith, x.0)) ] ]) (line-good 0 h))
+  begins h = stable_eq (number_of bs 0) 0 (part (λ q. elim q.0 [ inl x ↦ x.1 | inr y ↦ elim y [ inl x ↦ absurd (omega (arith, x.0)) | inr x ↦ absurd (omega (arith, x.0)) ] ]) (line_good 0 h))
 
   pub reads_numbered : Numbered bs
   reads_numbered = record { first = begins; next = λ l h. elim (goes_on l h) [ inl x ↦ inl x.0 | inr x ↦ inr x ] }
@@ -191,21 +191,21 @@ module _ (bs : List ℕ) (reads : Reads bs) where
       ]
 
   has_line : (p : ℕ) → p < pattern_count bs → (j : ℕ) × (j < pattern_lines_n bs) × (number_of bs j ≡ p)
-  has-line p h = elim (cases_eq (pattern_lines_n bs) 0) [
+  has_line p h = elim (cases_eq (pattern_lines_n bs) 0) [
     | inl z ↦ (let none : pattern_count bs ≡ 0 = simp (eq-eqb (pattern_lines_n bs) 0 z) in absurd (omega arith))
     | inr ne ↦ (let count : pattern_count bs ≡ number_of bs (pattern_lines_n bs - 1) + 1 = simp (ne_eqb (pattern_lines_n bs) 0 ne) in
         let k = passes (pattern_lines_n bs - 1) p (omega arith) (omega arith) in (k.0, omega (arith, k.1), k.2))
   ]
 
   pattern_fits : (p : ℕ) → p < pattern_count bs → PatternFits (system_of bs) (conditions_of bs p)
-  pattern-fits p h =
+  pattern_fits p h =
       let f : ℕ → Condition = λ l. condition_at bs (pattern_offset bs l) in
       let t : ℕ → Bool = λ l. eqb (number_of bs l) p in
-      let k = has-line p h in
+      let k = has_line p h in
       record {
         some = some_kept f t 0 (pattern_lines_n bs) k.0 (omega arith) (omega (arith, k.1)) (eq-eqb _ p k.2);
         fit = all_kept (ConditionFits (system_of bs)) f t 0 (pattern_lines_n bs)
-            (λ j l u e. condition-fits (pattern_offset bs j) (part (λ q. q.1) (line-good j (omega arith))));
+            (λ j l u e. condition_fits (pattern_offset bs j) (part (λ q. q.1) (line_good j (omega arith))));
         rise = rise_kept f t 0 (pattern_lines_n bs) 0
             (λ j l u e. omega arith)
             (λ i j a lt u e g.
@@ -215,9 +215,9 @@ module _ (bs : List ℕ) (reads : Reads bs) where
       }
 
   patterns_fit : (p : ℕ) → p < length (system_of bs).patterns → PatternFits (system_of bs) (pattern_of (system_of bs) p)
-  patterns-fit p h =
+  patterns_fit p h =
       let l : p < pattern_count bs = omega (arith, patterns_long bs) in
-      subst (PatternFits (system_of bs)) (sym (pattern_at bs p l)) (pattern-fits p l)
+      subst (PatternFits (system_of bs)) (sym (pattern_at bs p l)) (pattern_fits p l)
 
   pub reads_well_formed : WellFormed (system_of bs)
   reads_well_formed = record {
@@ -227,6 +227,6 @@ module _ (bs : List ℕ) (reads : Reads bs) where
     few_events = few_events;
     some_states = λ i h. (let l : i < machines_n bs = omega (arith, machines_long bs) in omega (arith, states_at_lem bs i l, some_states i l));
     few_states = λ i h. (let l : i < machines_n bs = omega (arith, machines_long bs) in omega (arith, states_at_lem bs i l, few_states i l));
-    rules = rules-fit;
-    patterns = patterns-fit;
+    rules = rules_fit;
+    patterns = patterns_fit;
   }

@@ -1,6 +1,4 @@
 // The table file, read where it lies.
-#![tactic(auto)]
-
 pub mod bytes;
 pub mod header;
 pub mod layout;

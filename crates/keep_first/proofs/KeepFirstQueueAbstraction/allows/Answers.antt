@@ -4,7 +4,7 @@ use Rattle.model.specs.declared.queue.Front.{Front}
 use Rattle.abstraction.specs.Meaning.{Valid, Allowed}
 use Rattle.model.specs.Queue.{Begins}
 use Rattle.keep_first.specs.KeepFirst.{Split, keep_bits, keep_code}
-use Rattle.keep_first.specs.Kept.{allow-none, allow-parts, allow-up}
+use Rattle.keep_first.specs.Kept.{allow_none, allow_parts, allow_up}
 use Rattle.keep_first.proofs.KeepFirstQueueAbstraction.allows.Goals as goal
 use Rattle.keep_first.proofs.KeepFirstQueueAbstraction.allows.Goals.{in-Any, in-Empty, in-Event-front}
 
@@ -15,7 +15,7 @@ returns-then-valid g c =
     let code = g.A.QueueAbstraction.code p in
     let v : Valid c.args.m (keep_bits w) = subst (Valid c.args.m) c.width.ensures (c.if-valid.ensures.0 refl) in
     subst (λ (x : ℕ). Decides (eqb c.args.mask 0) (Allowed (keep_bits w) (keep_code code) c.args.m x c.args.front c.args.mask)) (sym c.if-c-eq0.true)
-    (allow-none w code c.args.m c.args.mask c.args.front v (omega arith) c.in-default.not-Event)
+    (allow_none w code c.args.m c.args.mask c.args.front v (omega arith) c.in-default.not-Event)
 
 pub returns-then-begins : goal.returns-then-begins
 returns-then-begins g c =
@@ -29,9 +29,9 @@ returns-then-begins g c =
       | in-Empty w ↦ absurd (false≢true (sym w.begins-is ∙ c.if-begins.true))
       | in-Event-front w ↦ subst (λ (x : Front). Begins x (c.in-Some.first ∷ Q)) (sym w.in-Event-front.is) (sym (eqb-true _ _ (sym w.begins-is ∙ c.if-begins.true)))
     ] in
-    allow-up w code c.args.m c.args.c _ _ c.args.mask _ c.args.front _ v s.1 s.2 c.without.ensures begin c.allows.ensures
+    allow_up w code c.args.m c.args.c _ _ c.args.mask _ c.args.front _ v s.1 s.2 c.without.ensures begin c.allows.ensures
 
 pub returns-in-None : goal.returns-in-None
 returns-in-None g c =
     let s = subst (λ (w : ℕ). Split w c.args.m c.args.c None) c.width-2.ensures c.in-None.ensures in
-    (λ t. absurd (false≢true t), λ h. absurd (allow-parts _ _ _ _ _ _ c.if-c-eq0.false s h))
+    (λ t. absurd (false≢true t), λ h. absurd (allow_parts _ _ _ _ _ _ c.if-c-eq0.false s h))

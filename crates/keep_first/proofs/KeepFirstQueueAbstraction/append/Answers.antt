@@ -1,7 +1,7 @@
 use Rattle.std.proofs.Common.{◌≡◌, ℕ, ◌^◌, ◌<◌, [], Some, None, sym, refl, ◌∙◌, subst, arith}
 use Rattle.abstraction.specs.Meaning.{Valid, Appended}
 use Rattle.keep_first.specs.KeepFirst.{Split, keep_bits, keep_code}
-use Rattle.keep_first.specs.Kept.{narrow_below, valid_below, append-up, append-small, good-parts}
+use Rattle.keep_first.specs.Kept.{narrow_below, valid_below, append_up, append_small, good_parts}
 use Rattle.keep_first.proofs.KeepFirstQueueAbstraction.append.Goals as goal
 
 pub join-requires : goal.join-requires
@@ -18,7 +18,7 @@ join-requires g c =
 pub returns-in-err-first : goal.returns-in-err-first
 returns-in-err-first g c =
     let s = subst (λ (w : ℕ). Split w c.args.m c.args.c None) c.width-2.ensures c.in-err-first.ensures in
-    rw c.from-residual.ensures (λ h l. good-parts _ _ _ _ c.if-c-eq0.false s h)
+    rw c.from-residual.ensures (λ h l. good_parts _ _ _ _ c.if-c-eq0.false s h)
 
 pub join-requires-2 : goal.join-requires-2
 join-requires-2 g c =
@@ -26,7 +26,7 @@ join-requires-2 g c =
     let w = g.A.QueueAbstraction.bits p in
     let s = c.in-ok-first.ensures in
     let v : Valid c.args.m (keep_bits w) = subst (Valid c.args.m) c.width-2.ensures s.0 in
-    (omega (arith, v.few, s.1), narrow_below w _ v (append-small w (g.A.QueueAbstraction.code p) (g.met.A.QueueAbstraction.meaning p) _ _ _ _ c.in-ok-append.ensures))
+    (omega (arith, v.few, s.1), narrow_below w _ v (append_small w (g.A.QueueAbstraction.code p) (g.met.A.QueueAbstraction.meaning p) _ _ _ _ c.in-ok-append.ensures))
 
 pub returns : goal.returns
 returns g c =
@@ -36,4 +36,4 @@ returns g c =
     let s = c.in-ok-first.ensures in
     let v : Valid c.args.m (keep_bits w) = subst (Valid c.args.m) c.width-2.ensures s.0 in
     subst (λ (x : ℕ). Appended (keep_bits w) (keep_code code) c.args.m c.args.c c.args.e (Some x)) (sym c.join-2.ensures)
-    (append-up w code c.args.m c.args.c c.args.e _ _ _ v s.1 s.2 c.in-ok-append.ensures)
+    (append_up w code c.args.m c.args.c c.args.e _ _ _ v s.1 s.2 c.in-ok-append.ensures)

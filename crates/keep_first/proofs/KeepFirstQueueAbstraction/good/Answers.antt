@@ -2,7 +2,7 @@ use Rattle.std.proofs.Common.{ℕ, None, subst}
 use Rattle.std.proofs.lemmas.Bool.{false≢true}
 use Rattle.abstraction.specs.Meaning.{Valid}
 use Rattle.keep_first.specs.KeepFirst.{Split}
-use Rattle.keep_first.specs.Kept.{good_up, good_down, good-parts}
+use Rattle.keep_first.specs.Kept.{good_up, good_down, good_parts}
 use Rattle.keep_first.proofs.KeepFirstQueueAbstraction.good.Goals as goal
 
 pub returns-in-Some : goal.returns-in-Some
@@ -15,4 +15,4 @@ returns-in-Some g c =
 pub returns-in-None : goal.returns-in-None
 returns-in-None g c =
     let s = subst (λ (w : ℕ). Split w c.args.m c.args.c None) c.width-2.ensures c.in-None.ensures in
-    (λ t. absurd (false≢true t), λ h. absurd (good-parts _ _ _ _ c.if-c-eq0.false s h))
+    (λ t. absurd (false≢true t), λ h. absurd (good_parts _ _ _ _ c.if-c-eq0.false s h))

@@ -3,7 +3,7 @@ use Rattle.std.proofs.lemmas.Bool.{cond-true, cond-false, eq-eqb, ne_eqb}
 use Rattle.abstraction.specs.Meaning.{Valid}
 use Rattle.abstraction.proofs.Nth.{nothing, nth_map, nth_map_none}
 use Rattle.keep_first.specs.KeepFirst.{Split, keep_bits, kept}
-use Rattle.keep_first.specs.Kept.{narrow_below, keep_begun, keep-nth}
+use Rattle.keep_first.specs.Kept.{narrow_below, keep_begun, keep_nth}
 use Rattle.keep_first.proofs.KeepFirstQueueAbstraction.removal.Goals as goal
 use Rattle.keep_first.proofs.KeepFirstQueueAbstraction.removal.Goals.{then-rest-empty+else-k-eq0, else-rest-empty}
 
@@ -28,7 +28,7 @@ returns-in-err-next g c =
       | else-rest-empty w ↦ sym w.below-is ∙ sym (cond-false _ _ _ (ne_eqb _ _ (λ h. w.if-rest-empty.false (sym h ∙ sym t))))
     ] in
     c.from-residual-in-err-next.ensures
-    ∙ sym (keep-nth (q.bits p) (q.code p) (q.removals p) law _ _ _ _ c.args.k c.if-rest-empty.below v s.1 s.2 k
+    ∙ sym (keep_nth (q.bits p) (q.code p) (q.removals p) law _ _ _ _ c.args.k c.if-rest-empty.below v s.1 s.2 k
     ∙ nth_map_none (kept c.in-ok-first.first) (q.removals p c.args.m c.in-ok-first.rest) c.if-rest-empty.below (sym c.in-err-next.ensures))
 
 pub join-requires : goal.join-requires
@@ -54,5 +54,5 @@ returns g c =
       | else-rest-empty w ↦ sym w.below-is ∙ sym (cond-false _ _ _ (ne_eqb _ _ (λ h. w.if-rest-empty.false (sym h ∙ sym t))))
     ] in
     ap (λ (x : ℕ). Some (c.in-ok-first.first, x)) c.join.ensures
-    ∙ sym (keep-nth (q.bits p) (q.code p) (q.removals p) law _ _ _ _ c.args.k c.if-rest-empty.below v s.1 s.2 k
+    ∙ sym (keep_nth (q.bits p) (q.code p) (q.removals p) law _ _ _ _ c.args.k c.if-rest-empty.below v s.1 s.2 k
     ∙ nth_map (kept c.in-ok-first.first) (q.removals p c.args.m c.in-ok-first.rest) c.if-rest-empty.below (c.in-ok-next.next, c.in-ok-next.left) (sym c.in-ok-next.ensures))

@@ -3,7 +3,7 @@ use Rattle.model.specs.declared.fault.Refusal.{Refusal}
 use Rattle.model.specs.System.{rule_of}
 use Rattle.controller.specs.Reference.{unless, fired, acted}
 use Rattle.controller.specs.Views.{system_in, state_in}
-use Rattle.controller.proofs.Exact.{refusal_none, next_named, fired_ok, fired_err, exact-at}
+use Rattle.controller.proofs.Exact.{refusal_none, next_named, fired_ok, fired_err, exact_at}
 use Rattle.controller.proofs.Hindered.{first_at}
 use Rattle.controller.proofs.held.Controller.fire.Goals as goal
 
@@ -16,7 +16,7 @@ returns-in-default c =
     let none = refusal_none S cap s r (sym c.in-default.ensures) in
     let answer = ap Err c.refused.ensures ∙ sym (ap (fired r) none) in
     let state = sym (ap (λ (o : Option Refusal). unless o s (acted (rule_of S r).action (rule_of S r) s)) none) in
-    record { answer = answer; state = state; first = first_at S cap s r _ answer; exact = exact-at S cap s r _ _ answer state; keeps = record { table = refl; capacity = refl } }
+    record { answer = answer; state = state; first = first_at S cap s r _ answer; exact = exact_at S cap s r _ _ answer state; keeps = record { table = refl; capacity = refl } }
 
 pub returns-in-Err : goal.returns-in-Err
 returns-in-Err c =
@@ -28,7 +28,7 @@ returns-in-Err c =
     let e = sym c.in-Some.ensures in
     let answer = fired_err S cap s r x e c.in-Err.refusal _ c.in-Err.ensures.answer c.refused-in-Err.ensures in
     let state = next_named S cap s r x e _ c.in-Err.ensures.state in
-    record { answer = answer; state = state; first = first_at S cap s r _ answer; exact = exact-at S cap s r _ _ answer state; keeps = record { table = refl; capacity = refl } }
+    record { answer = answer; state = state; first = first_at S cap s r _ answer; exact = exact_at S cap s r _ _ answer state; keeps = record { table = refl; capacity = refl } }
 
 pub returns : goal.returns
 returns c =
@@ -40,4 +40,4 @@ returns c =
     let e = sym c.in-Some.ensures in
     let answer = fired_ok S cap s r x e c.in-default-fire.field-0 c.in-default-fire.ensures.answer in
     let state = next_named S cap s r x e _ c.in-default-fire.ensures.state in
-    record { answer = answer; state = state; first = first_at S cap s r _ answer; exact = exact-at S cap s r _ _ answer state; keeps = record { table = refl; capacity = refl } }
+    record { answer = answer; state = state; first = first_at S cap s r _ answer; exact = exact_at S cap s r _ _ answer state; keeps = record { table = refl; capacity = refl } }

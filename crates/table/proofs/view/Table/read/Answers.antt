@@ -4,7 +4,7 @@ use Rattle.model.proofs.Findings.{not_both, fault_only}
 use Rattle.model.proofs.Flat.{nothing_laid, first_laid}
 use Rattle.table.specs.Findings.{Applies, numbers, order}
 use Rattle.table.specs.Reading.{Reads, Refuses}
-use Rattle.table.proofs.Wholesome.{reads-well-formed, reads-numbered}
+use Rattle.table.proofs.Wholesome.{reads_well_formed, reads_numbered}
 use Rattle.table.proofs.view.Table.read.Goals as goal
 
 pub returns-in-err-check : goal.returns-in-err-check
@@ -29,5 +29,5 @@ returns c =
       verdict = (c.over-table.ensures, h);
       only = λ f k. not_both (Applies bs) (numbers bs) (order bs) k.finding h k.first;
       listed = nothing_laid (Applies bs) (order bs) h;
-      well-formed = (reads-well-formed bs h, reads-numbered bs h);
+      well-formed = (reads_well_formed bs h, reads_numbered bs h);
     }
