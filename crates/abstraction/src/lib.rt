@@ -1,4 +1,6 @@
 // Queue abstractions: a code, one number, keeps part of what a queue of any length holds.
+#![tactic(auto)]
+
 ghost use Rattle.std.specs.Prelude.{◌≡◌, ℕ, List, [], Decides};
 ghost use Rattle.std.specs.List.{slice_get};
 ghost use Rattle.abstraction.specs.Meaning.{Meaning, Good, Allowed, Appended, Removal};

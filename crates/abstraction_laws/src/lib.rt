@@ -1,4 +1,6 @@
 // Laws of the abstractions, each the contract of a function: what codes look like, and values worked by hand.
+#![tactic(auto)]
+
 ghost use Rattle.std.specs.Prelude.{◌≡◌};
 ghost use Rattle.abstraction_laws.specs.Codes.{ListPositions, SetMask};
 ghost use Rattle.abstraction_laws.specs.Prefix.{LayersKeepPrefix};

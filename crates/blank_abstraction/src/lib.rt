@@ -1,4 +1,6 @@
 // The blank abstraction: nothing of a queue is kept, every queue has code 0.
+#![tactic(auto)]
+
 ghost use Rattle.blank_abstraction.specs.Blank.{blank_code, blank_removals};
 ghost use Rattle.blank_abstraction.specs.Removals.{blank_meaning};
 

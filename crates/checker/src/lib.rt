@@ -1,4 +1,6 @@
 // The check of a table against a state set, under a queue abstraction.
+#![tactic(auto)]
+
 pub mod check;
 mod form;
 mod held;

@@ -1,4 +1,6 @@
 // Theorems on systems, queue abstractions and lists of records: what a closed list is worth, and what decides that it is closed.
+#![tactic(auto)]
+
 ghost use Rattle.closed_sets.specs.Codes.{SurpriseLets, PatternLets, OutsideLets, OutsideNot};
 ghost use Rattle.closed_sets.specs.Theorems.{ClosedHolds, FoundNothing, ClosedNothing};
 

@@ -1,4 +1,6 @@
 // Rehearsals of a sender and a taker, from the bytes of the files to the answers.
+#![tactic(auto)]
+
 #[cfg(test)]
 mod tests {
     use controller::call::{Answer, Call};

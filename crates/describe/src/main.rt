@@ -1,4 +1,6 @@
 // Prints how the file `table` reads, or why it is refused.
+#![tactic(auto)]
+
 use files::read_at_most;
 use std::io;
 use table::view::Table;

@@ -1,4 +1,6 @@
 // What the programs share: reading a file of limited length.
+#![tactic(auto)]
+
 ghost use Rattle.std.specs.Prelude.{◌≤◌, vec_len};
 
 use std::fs::File;

@@ -1,5 +1,7 @@
 // The list abstraction: the first occurrence of each event, in order. Position i of a code is its i-th digit in
 // base 16, which holds the event + 1, and 0 behind the last event.
+#![tactic(auto)]
+
 ghost use Rattle.std.specs.Prelude.{◌≡◌, ◌*◌, ◌^◌, ◌<◌};
 ghost use Rattle.list_abstraction.specs.List.{list_code, list_removals};
 ghost use Rattle.list_abstraction.specs.Read.{Read};

@@ -1,4 +1,6 @@
 // Machines with message queues: the types that a system is written in, and the laws of its steps.
+#![tactic(auto)]
+
 pub mod fault;
 pub mod laws;
 pub mod pattern;

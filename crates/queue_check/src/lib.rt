@@ -1,4 +1,6 @@
 // The check under the layers that a set's header names, and its entry for C.
+#![tactic(auto)]
+
 ghost use Rattle.std.specs.Prelude.{◌≡◌, ℕ};
 ghost use Rattle.table.specs.Bytes.{word_at};
 ghost use Rattle.checker.specs.Promise.{Checked};

@@ -1,4 +1,6 @@
 // Checks the files `table` and `set`, prints the verdict and, under a pass, the reply to each line of the file `calls`.
+#![tactic(auto)]
+
 use files::read_at_most;
 use rehearsal::rehearsal::rehearse_files;
 use std::io;

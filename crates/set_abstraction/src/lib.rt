@@ -1,4 +1,6 @@
 // The set abstraction: a code is the mask of the events that wait, whatever their order and number.
+#![tactic(auto)]
+
 ghost use Rattle.std.specs.Prelude.{◌≡◌};
 ghost use Rattle.set_abstraction.specs.Set.{set_code, present, set_removals};
 ghost use Rattle.set_abstraction.specs.Removals.{set_meaning};

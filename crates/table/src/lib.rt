@@ -1,4 +1,6 @@
 // The table file, read where it lies.
+#![tactic(auto)]
+
 pub mod bytes;
 pub mod header;
 pub mod layout;

@@ -1,4 +1,6 @@
 // The life of a table's bytes: read, checked, loaded, fired, and free to be written to again.
+#![tactic(auto)]
+
 ghost use Rattle.std.specs.Prelude.{◌≡◌, set as put, MatchResult};
 
 use checker::pass::Pass;

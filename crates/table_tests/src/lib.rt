@@ -1,4 +1,6 @@
 // Tests of the table reader: limits, single bytes changed, several faults at once.
+#![tactic(auto)]
+
 #[cfg(test)]
 mod tests {
     use std::alloc::{AllocError, Global};

@@ -1,4 +1,6 @@
 // Tables in words that can be held against a sketch of the machines.
+#![tactic(auto)]
+
 use model::pattern::Condition;
 use model::queue::Front;
 use model::rule::{Action, Rule};

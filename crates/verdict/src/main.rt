@@ -1,4 +1,6 @@
 // Checks the files `table` and `set`, and prints `pass` or the refusal.
+#![tactic(auto)]
+
 use files::read_at_most;
 use queue_check::check_files;
 use std::io;
