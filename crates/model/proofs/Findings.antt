@@ -1,5 +1,5 @@
 -- The first that applies, in an order put together of parts. Assumes nothing.
-use Rattle.std.proofs.Common.{◌≡◌, ℕ, ◌<◌, ◌⊎◌, Ok, Err, Result, sym, refl, ap, ◌∙◌, subst, inl, inr, arith}
+use Rattle.std.proofs.Common.{◌≡◌, ℕ, ◌<◌, Ok, Err, Result, sym, ap, ◌∙◌, subst, inl, inr, arith}
 use Rattle.std.proofs.lemmas.Bool.{cases_lt, cases_eq}
 use Rattle.model.specs.declared.fault.Fault.{Fault}
 use Rattle.model.specs.Order.{Order, one, ◌then◌, each, Nothing, First, FirstFault, Answered, under}

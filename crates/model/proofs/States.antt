@@ -1,5 +1,5 @@
 -- A step leads from states of the system to states of the system. Assumes nothing.
-use Rattle.std.proofs.Common.{◌≡◌, ℕ, ◌<◌, List, [], ◌∷◌, ◌++◌, length, get_or, set, sym, refl, ap, ◌∙◌, subst, inl, inr, arith, length-set, get_or-set_other, get_or-set_same}
+use Rattle.std.proofs.Common.{◌≡◌, ℕ, ◌<◌, List, [], ◌∷◌, ◌++◌, set, sym, ap, ◌∙◌, subst, inl, inr, arith, length-set, get_or-set_other, get_or-set_same}
 use lib.ListN.{length-replicate, get_or-replicate}
 use Rattle.std.proofs.lemmas.Bool.{cases_eq}
 use Rattle.model.specs.declared.rule.Action.{Action}
@@ -8,7 +8,7 @@ use Rattle.model.specs.declared.rule.Rule.{Rule}
 use Rattle.model.specs.Queue.{Over}
 use Rattle.model.specs.System.{System, machines, states_of, rule_of, ActionFits, RuleFits, WellFormed}
 use Rattle.model.specs.State.{State, local_at, queue_at, start, IsState}
-use Rattle.model.specs.Steps.{moved, Acts, Makes, Step, Reaches, begin, onward}
+use Rattle.model.specs.Steps.{moved, Acts, Step, Reaches, begin, onward}
 use Rattle.model.specs.Laws.{RuleDetermines, ReachedIsState}
 
 pub over_back : (m e : ℕ) (Q : List ℕ) → e < m → Over m Q → Over m (Q ++ (e ∷ []))

@@ -1,9 +1,9 @@
 -- Laws of systems: what every step and every reached state keeps. Assumes nothing.
-use Rattle.std.specs.Prelude.{◌≡◌, ℕ}
+use Rattle.std.specs.Prelude.{◌≡◌}
 use Rattle.model.specs.declared.rule.Rule.{Rule}
 use Rattle.model.specs.System.{System, WellFormed}
-use Rattle.model.specs.State.{State, start, IsState}
-use Rattle.model.specs.Steps.{Makes, Step, Reaches}
+use Rattle.model.specs.State.{State, IsState}
+use Rattle.model.specs.Steps.{Makes, Reaches}
 
 -- a rule makes at most one state of another
 abbrev pub RuleDetermines : Type 0

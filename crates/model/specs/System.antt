@@ -1,5 +1,5 @@
 -- Systems: machines with local states, rules and forbidden patterns. Assumes nothing.
-use Rattle.std.specs.Prelude.{◌≡◌, ℕ, suc, ◌^◌, ◌<◌, ◌≤◌, List, [], ◌∷◌, length, Some, None, Option, slice_index, slice_index_or}
+use Rattle.std.specs.Prelude.{ℕ, suc, ◌^◌, ◌<◌, ◌≤◌, List, [], ◌∷◌, length, Some, None, Option, slice_index, slice_index_or}
 use Rattle.std.specs.List.{AllByRecursion as All}
 use Rattle.model.specs.declared.queue.Front.{Front}
 use Rattle.model.specs.declared.queue.Front.TheVariants.{Any, Empty, Event}
