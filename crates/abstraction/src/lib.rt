@@ -48,7 +48,7 @@ pub trait QueueAbstraction {
 
 // Does some queue with code c begin with event e and have code d without it?
 pub fn has_removal<A: QueueAbstraction>(abstraction: &A, m: u8, c: u64, e: u8, d: u64) -> bool
-    ensures { Decides result (Removal (bits abstraction.now) (code abstraction.now) m c e d) }
+    ensures { Decides result (Removal (A.bits abstraction.now) (A.code abstraction.now) m c e d) }
 {
     let mut k = 0;
     while let Some((taken, left)) = abstraction.removal(m, c, k) {

@@ -25,9 +25,9 @@ fn check_closed<A: QueueAbstraction>(
 ) -> Result<(), Fault>
     requires ready { Ready table.now.bytes.now }
     requires rising { SetReady (machines_n table.now.bytes.now) set.now.bytes.now }
-    requires sound { (k : ℕ) → k < records_n set.now.bytes.now → Sound (claim_of table.now.bytes.now set.now.bytes.now (bits abstraction.now) (code abstraction.now) (removals abstraction.now)) (record_of (claim_of table.now.bytes.now set.now.bytes.now (bits abstraction.now) (code abstraction.now) (removals abstraction.now)) k) }
-    ensures first { Answered (Applies table.now.bytes.now set.now.bytes.now (claim_of table.now.bytes.now set.now.bytes.now (bits abstraction.now) (code abstraction.now) (removals abstraction.now))) (numbers table.now.bytes.now) (closed_order (claim_of table.now.bytes.now set.now.bytes.now (bits abstraction.now) (code abstraction.now) (removals abstraction.now))) result }
-    ensures closed { OnOk result (Closed (claim_of table.now.bytes.now set.now.bytes.now (bits abstraction.now) (code abstraction.now) (removals abstraction.now))) }
+    requires sound { (k : ℕ) → k < records_n set.now.bytes.now → Sound (claim_of table.now.bytes.now set.now.bytes.now (A.bits abstraction.now) (A.code abstraction.now) (A.removals abstraction.now)) (record_of (claim_of table.now.bytes.now set.now.bytes.now (A.bits abstraction.now) (A.code abstraction.now) (A.removals abstraction.now)) k) }
+    ensures first { Answered (Applies table.now.bytes.now set.now.bytes.now (claim_of table.now.bytes.now set.now.bytes.now (A.bits abstraction.now) (A.code abstraction.now) (A.removals abstraction.now))) (numbers table.now.bytes.now) (closed_order (claim_of table.now.bytes.now set.now.bytes.now (A.bits abstraction.now) (A.code abstraction.now) (A.removals abstraction.now))) result }
+    ensures closed { OnOk result (Closed (claim_of table.now.bytes.now set.now.bytes.now (A.bits abstraction.now) (A.code abstraction.now) (A.removals abstraction.now))) }
 {
     if !has_start(table, set, abstraction) {
         return Err(fault_at(Refusal::StartAbsent, 0));
@@ -42,8 +42,8 @@ fn check_set<A: QueueAbstraction>(
     abstraction: &A,
 ) -> Result<(), Fault>
     requires ready { Ready table.now.bytes.now }
-    ensures first { Answered (Applies table.now.bytes.now set.now.bytes.now (claim_of table.now.bytes.now set.now.bytes.now (bits abstraction.now) (code abstraction.now) (removals abstraction.now))) (numbers table.now.bytes.now) (set_order set.now.bytes.now (claim_of table.now.bytes.now set.now.bytes.now (bits abstraction.now) (code abstraction.now) (removals abstraction.now))) result }
-    ensures closed { OnOk result (Closed (claim_of table.now.bytes.now set.now.bytes.now (bits abstraction.now) (code abstraction.now) (removals abstraction.now))) }
+    ensures first { Answered (Applies table.now.bytes.now set.now.bytes.now (claim_of table.now.bytes.now set.now.bytes.now (A.bits abstraction.now) (A.code abstraction.now) (A.removals abstraction.now))) (numbers table.now.bytes.now) (set_order set.now.bytes.now (claim_of table.now.bytes.now set.now.bytes.now (A.bits abstraction.now) (A.code abstraction.now) (A.removals abstraction.now))) result }
+    ensures closed { OnOk result (Closed (claim_of table.now.bytes.now set.now.bytes.now (A.bits abstraction.now) (A.code abstraction.now) (A.removals abstraction.now))) }
 {
     check_form(table, set, abstraction)?;
     check_closed(table, set, abstraction)
@@ -55,7 +55,7 @@ pub fn check<'a, A: QueueAbstraction>(
     set: &[u8],
     abstraction: &A,
 ) -> Result<Pass<'a>, Fault>
-    ensures { Checked table.now set.now (claim_of table.now set.now (bits abstraction.now) (code abstraction.now) (removals abstraction.now)) result }
+    ensures { Checked table.now set.now (claim_of table.now set.now (A.bits abstraction.now) (A.code abstraction.now) (A.removals abstraction.now)) result }
 {
     let view = Table::read(table)?;
     check_set(&view, &StateSet::over(set), abstraction)?;
@@ -71,7 +71,7 @@ pub fn read_set<'a, A: QueueAbstraction>(
     set: &'a [u8],
     abstraction: &A,
 ) -> Result<StateSet<'a>, Fault>
-    ensures { SetRead table.now set.now (claim_of table.now set.now (bits abstraction.now) (code abstraction.now) (removals abstraction.now)) result }
+    ensures { SetRead table.now set.now (claim_of table.now set.now (A.bits abstraction.now) (A.code abstraction.now) (A.removals abstraction.now)) result }
 {
     let view = Table::read(table)?;
     let states = StateSet::over(set);

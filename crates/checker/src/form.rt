@@ -68,7 +68,7 @@ fn check_header(table: &Table<'_>, set: &StateSet<'_>) -> Result<(), Fault>
 fn entry_sound<A: QueueAbstraction>(table: &Table<'_>, abstraction: &A, i: u8, entry: Entry) -> bool
     requires events { events_n table.now.bytes.now ≤ 8 }
     requires below { i < machines_n table.now.bytes.now }
-    ensures { Decides result ((entry.local < states_of (system_of table.now.bytes.now) i) × Good (bits abstraction.now) (code abstraction.now) (events_n table.now.bytes.now) entry.code) }
+    ensures { Decides result ((entry.local < states_of (system_of table.now.bytes.now) i) × Good (A.bits abstraction.now) (A.code abstraction.now) (events_n table.now.bytes.now) entry.code) }
 {
     entry.local < local_states(table, i) && abstraction.good(events(table), entry.code)
 }
@@ -82,10 +82,10 @@ fn is_sound<A: QueueAbstraction>(
     held: &Held,
 ) -> bool
     requires ready { Ready table.now.bytes.now }
-    requires is { record_in held.now ≡ record_of (claim_of table.now.bytes.now set.now.bytes.now (bits abstraction.now) (code abstraction.now) (removals abstraction.now)) k }
+    requires is { record_in held.now ≡ record_of (claim_of table.now.bytes.now set.now.bytes.now (A.bits abstraction.now) (A.code abstraction.now) (A.removals abstraction.now)) k }
     requires machines { held.now.machines ≡ machines_n table.now.bytes.now }
     requires sized { length (record_in held.now) ≡ machines_n table.now.bytes.now }
-    ensures { Decides result (Sound (claim_of table.now.bytes.now set.now.bytes.now (bits abstraction.now) (code abstraction.now) (removals abstraction.now)) (record_of (claim_of table.now.bytes.now set.now.bytes.now (bits abstraction.now) (code abstraction.now) (removals abstraction.now)) k)) }
+    ensures { Decides result (Sound (claim_of table.now.bytes.now set.now.bytes.now (A.bits abstraction.now) (A.code abstraction.now) (A.removals abstraction.now)) (record_of (claim_of table.now.bytes.now set.now.bytes.now (A.bits abstraction.now) (A.code abstraction.now) (A.removals abstraction.now)) k)) }
 {
     for i in 0..held.machines {
         if !entry_sound(table, abstraction, i, entry_at(held, i)) {
@@ -106,7 +106,7 @@ fn form_record<A: QueueAbstraction>(
     requires head { 16 ≤ length set.now.bytes.now }
     requires long { length set.now.bytes.now ≡ 16 + 9 * machines_n table.now.bytes.now * records_n set.now.bytes.now }
     requires below { k < records_n set.now.bytes.now }
-    ensures { MatchResult result (λ _. Sound (claim_of table.now.bytes.now set.now.bytes.now (bits abstraction.now) (code abstraction.now) (removals abstraction.now)) (record_of (claim_of table.now.bytes.now set.now.bytes.now (bits abstraction.now) (code abstraction.now) (removals abstraction.now)) k) × (0 < k → Before (9 * machines_n table.now.bytes.now) (record_byte (machines_n table.now.bytes.now) set.now.bytes.now (k - 1)) (record_byte (machines_n table.now.bytes.now) set.now.bytes.now k))) (λ f. FirstFault (Applies table.now.bytes.now set.now.bytes.now (claim_of table.now.bytes.now set.now.bytes.now (bits abstraction.now) (code abstraction.now) (removals abstraction.now))) (numbers table.now.bytes.now) (form_of k) f) }
+    ensures { MatchResult result (λ _. Sound (claim_of table.now.bytes.now set.now.bytes.now (A.bits abstraction.now) (A.code abstraction.now) (A.removals abstraction.now)) (record_of (claim_of table.now.bytes.now set.now.bytes.now (A.bits abstraction.now) (A.code abstraction.now) (A.removals abstraction.now)) k) × (0 < k → Before (9 * machines_n table.now.bytes.now) (record_byte (machines_n table.now.bytes.now) set.now.bytes.now (k - 1)) (record_byte (machines_n table.now.bytes.now) set.now.bytes.now k))) (λ f. FirstFault (Applies table.now.bytes.now set.now.bytes.now (claim_of table.now.bytes.now set.now.bytes.now (A.bits abstraction.now) (A.code abstraction.now) (A.removals abstraction.now))) (numbers table.now.bytes.now) (form_of k) f) }
 {
     let held = set.record(machines(table), k);
     if !is_sound(table, set, abstraction, k, &held) {
@@ -130,7 +130,7 @@ fn form_records<A: QueueAbstraction>(
     requires ready { Ready table.now.bytes.now }
     requires head { 16 ≤ length set.now.bytes.now }
     requires long { length set.now.bytes.now ≡ 16 + 9 * machines_n table.now.bytes.now * records_n set.now.bytes.now }
-    ensures { MatchResult result (λ _. Formed (machines_n table.now.bytes.now) set.now.bytes.now (claim_of table.now.bytes.now set.now.bytes.now (bits abstraction.now) (code abstraction.now) (removals abstraction.now))) (λ f. FirstFault (Applies table.now.bytes.now set.now.bytes.now (claim_of table.now.bytes.now set.now.bytes.now (bits abstraction.now) (code abstraction.now) (removals abstraction.now))) (numbers table.now.bytes.now) (each (records_n set.now.bytes.now) form_of) f) }
+    ensures { MatchResult result (λ _. Formed (machines_n table.now.bytes.now) set.now.bytes.now (claim_of table.now.bytes.now set.now.bytes.now (A.bits abstraction.now) (A.code abstraction.now) (A.removals abstraction.now))) (λ f. FirstFault (Applies table.now.bytes.now set.now.bytes.now (claim_of table.now.bytes.now set.now.bytes.now (A.bits abstraction.now) (A.code abstraction.now) (A.removals abstraction.now))) (numbers table.now.bytes.now) (each (records_n set.now.bytes.now) form_of) f) }
 {
     for k in 0..set.record_count() {
         form_record(table, set, abstraction, k)?;
@@ -146,7 +146,7 @@ pub(crate) fn has_start<A: QueueAbstraction>(
 ) -> bool
     requires ready { Ready table.now.bytes.now }
     requires rising { SetReady (machines_n table.now.bytes.now) set.now.bytes.now }
-    ensures { Decides result (Represented (claim_of table.now.bytes.now set.now.bytes.now (bits abstraction.now) (code abstraction.now) (removals abstraction.now)) (start (system_of table.now.bytes.now))) }
+    ensures { Decides result (Represented (claim_of table.now.bytes.now set.now.bytes.now (A.bits abstraction.now) (A.code abstraction.now) (A.removals abstraction.now)) (start (system_of table.now.bytes.now))) }
 {
     let held = uniform(machines(table), abstraction.empty());
     set.find(&held, 0).is_some()
@@ -159,8 +159,8 @@ pub(crate) fn check_form<A: QueueAbstraction>(
     abstraction: &A,
 ) -> Result<(), Fault>
     requires ready { Ready table.now.bytes.now }
-    ensures form { Answered (Applies table.now.bytes.now set.now.bytes.now (claim_of table.now.bytes.now set.now.bytes.now (bits abstraction.now) (code abstraction.now) (removals abstraction.now))) (numbers table.now.bytes.now) (form_order set.now.bytes.now) result }
-    ensures ready { OnOk result (SetReady (machines_n table.now.bytes.now) set.now.bytes.now × Formed (machines_n table.now.bytes.now) set.now.bytes.now (claim_of table.now.bytes.now set.now.bytes.now (bits abstraction.now) (code abstraction.now) (removals abstraction.now))) }
+    ensures form { Answered (Applies table.now.bytes.now set.now.bytes.now (claim_of table.now.bytes.now set.now.bytes.now (A.bits abstraction.now) (A.code abstraction.now) (A.removals abstraction.now))) (numbers table.now.bytes.now) (form_order set.now.bytes.now) result }
+    ensures ready { OnOk result (SetReady (machines_n table.now.bytes.now) set.now.bytes.now × Formed (machines_n table.now.bytes.now) set.now.bytes.now (claim_of table.now.bytes.now set.now.bytes.now (A.bits abstraction.now) (A.code abstraction.now) (A.removals abstraction.now))) }
 {
     check_header(table, set)?;
     form_records(table, set, abstraction)

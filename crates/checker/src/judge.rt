@@ -34,9 +34,9 @@ fn check_record<A: QueueAbstraction>(
     requires ready { Ready table.now.bytes.now }
     requires rising { SetReady (machines_n table.now.bytes.now) set.now.bytes.now }
     requires planned { Planned table.now.bytes.now plan.now }
-    requires judging { Judging (claim_of table.now.bytes.now set.now.bytes.now (bits abstraction.now) (code abstraction.now) (removals abstraction.now)) (machines_n table.now.bytes.now) k held.now }
-    requires calm { 0 < k → Calm (claim_of table.now.bytes.now set.now.bytes.now (bits abstraction.now) (code abstraction.now) (removals abstraction.now)) (machines_n table.now.bytes.now) last.now }
-    ensures { Judged (claim_of table.now.bytes.now set.now.bytes.now (bits abstraction.now) (code abstraction.now) (removals abstraction.now)) (of_record (claim_of table.now.bytes.now set.now.bytes.now (bits abstraction.now) (code abstraction.now) (removals abstraction.now)) k) result }
+    requires judging { Judging (claim_of table.now.bytes.now set.now.bytes.now (A.bits abstraction.now) (A.code abstraction.now) (A.removals abstraction.now)) (machines_n table.now.bytes.now) k held.now }
+    requires calm { 0 < k → Calm (claim_of table.now.bytes.now set.now.bytes.now (A.bits abstraction.now) (A.code abstraction.now) (A.removals abstraction.now)) (machines_n table.now.bytes.now) last.now }
+    ensures { Judged (claim_of table.now.bytes.now set.now.bytes.now (A.bits abstraction.now) (A.code abstraction.now) (A.removals abstraction.now)) (of_record (claim_of table.now.bytes.now set.now.bytes.now (A.bits abstraction.now) (A.code abstraction.now) (A.removals abstraction.now)) k) result }
 {
     check_surprises(table, set, abstraction, k, plan, held, last)?;
     check_patterns(table, set, abstraction, k, plan, hints, held)?;
@@ -51,8 +51,8 @@ pub(crate) fn check_records<A: QueueAbstraction>(
 ) -> Result<(), Fault>
     requires ready { Ready table.now.bytes.now }
     requires rising { SetReady (machines_n table.now.bytes.now) set.now.bytes.now }
-    requires sound { (k : ℕ) → k < records_n set.now.bytes.now → Sound (claim_of table.now.bytes.now set.now.bytes.now (bits abstraction.now) (code abstraction.now) (removals abstraction.now)) (record_of (claim_of table.now.bytes.now set.now.bytes.now (bits abstraction.now) (code abstraction.now) (removals abstraction.now)) k) }
-    ensures { Judged (claim_of table.now.bytes.now set.now.bytes.now (bits abstraction.now) (code abstraction.now) (removals abstraction.now)) (judged (claim_of table.now.bytes.now set.now.bytes.now (bits abstraction.now) (code abstraction.now) (removals abstraction.now))) result }
+    requires sound { (k : ℕ) → k < records_n set.now.bytes.now → Sound (claim_of table.now.bytes.now set.now.bytes.now (A.bits abstraction.now) (A.code abstraction.now) (A.removals abstraction.now)) (record_of (claim_of table.now.bytes.now set.now.bytes.now (A.bits abstraction.now) (A.code abstraction.now) (A.removals abstraction.now)) k) }
+    ensures { Judged (claim_of table.now.bytes.now set.now.bytes.now (A.bits abstraction.now) (A.code abstraction.now) (A.removals abstraction.now)) (judged (claim_of table.now.bytes.now set.now.bytes.now (A.bits abstraction.now) (A.code abstraction.now) (A.removals abstraction.now))) result }
 {
     let plan = plan_of(table);
     let mut hints = Hints::none();

@@ -42,9 +42,9 @@ fn lets_hold<A: QueueAbstraction>(
     condition: Condition,
 ) -> bool
     requires ready { Ready table.now.bytes.now }
-    requires judging { Judging (claim_of table.now.bytes.now set.now.bytes.now (bits abstraction.now) (code abstraction.now) (removals abstraction.now)) (machines_n table.now.bytes.now) k held.now }
+    requires judging { Judging (claim_of table.now.bytes.now set.now.bytes.now (A.bits abstraction.now) (A.code abstraction.now) (A.removals abstraction.now)) (machines_n table.now.bytes.now) k held.now }
     requires below { condition.machine < machines_n table.now.bytes.now }
-    ensures { Decides result (MayHold (claim_of table.now.bytes.now set.now.bytes.now (bits abstraction.now) (code abstraction.now) (removals abstraction.now)) (record_of (claim_of table.now.bytes.now set.now.bytes.now (bits abstraction.now) (code abstraction.now) (removals abstraction.now)) k) condition) }
+    ensures { Decides result (MayHold (claim_of table.now.bytes.now set.now.bytes.now (A.bits abstraction.now) (A.code abstraction.now) (A.removals abstraction.now)) (record_of (claim_of table.now.bytes.now set.now.bytes.now (A.bits abstraction.now) (A.code abstraction.now) (A.removals abstraction.now)) k) condition) }
 {
     let entry = entry_at(held, condition.machine);
     if !local_is(condition.local, entry.local) {
@@ -66,9 +66,9 @@ fn keeps<A: QueueAbstraction>(
 ) -> bool
     requires ready { Ready table.now.bytes.now }
     requires planned { Planned table.now.bytes.now plan.now }
-    requires judging { Judging (claim_of table.now.bytes.now set.now.bytes.now (bits abstraction.now) (code abstraction.now) (removals abstraction.now)) (machines_n table.now.bytes.now) k held.now }
+    requires judging { Judging (claim_of table.now.bytes.now set.now.bytes.now (A.bits abstraction.now) (A.code abstraction.now) (A.removals abstraction.now)) (machines_n table.now.bytes.now) k held.now }
     requires below { l < pattern_lines_n table.now.bytes.now }
-    ensures { MatchBool result (Keeps (claim_of table.now.bytes.now set.now.bytes.now (bits abstraction.now) (code abstraction.now) (removals abstraction.now)) table.now.bytes.now k n l) (number_of table.now.bytes.now l ≡ n → MayHold (claim_of table.now.bytes.now set.now.bytes.now (bits abstraction.now) (code abstraction.now) (removals abstraction.now)) (record_of (claim_of table.now.bytes.now set.now.bytes.now (bits abstraction.now) (code abstraction.now) (removals abstraction.now)) k) (pattern_line_at table.now.bytes.now (pattern_offset table.now.bytes.now l)).condition) }
+    ensures { MatchBool result (Keeps (claim_of table.now.bytes.now set.now.bytes.now (A.bits abstraction.now) (A.code abstraction.now) (A.removals abstraction.now)) table.now.bytes.now k n l) (number_of table.now.bytes.now l ≡ n → MayHold (claim_of table.now.bytes.now set.now.bytes.now (A.bits abstraction.now) (A.code abstraction.now) (A.removals abstraction.now)) (record_of (claim_of table.now.bytes.now set.now.bytes.now (A.bits abstraction.now) (A.code abstraction.now) (A.removals abstraction.now)) k) (pattern_line_at table.now.bytes.now (pattern_offset table.now.bytes.now l)).condition) }
 {
     let line = plan.line(l);
     if line.number as u16 != n {
@@ -90,9 +90,9 @@ fn kept_by<A: QueueAbstraction>(
 ) -> Option<u16>
     requires ready { Ready table.now.bytes.now }
     requires planned { Planned table.now.bytes.now plan.now }
-    requires judging { Judging (claim_of table.now.bytes.now set.now.bytes.now (bits abstraction.now) (code abstraction.now) (removals abstraction.now)) (machines_n table.now.bytes.now) k held.now }
+    requires judging { Judging (claim_of table.now.bytes.now set.now.bytes.now (A.bits abstraction.now) (A.code abstraction.now) (A.removals abstraction.now)) (machines_n table.now.bytes.now) k held.now }
     requires below { n < pattern_count table.now.bytes.now }
-    ensures { MatchOption result (Applies (claim_of table.now.bytes.now set.now.bytes.now (bits abstraction.now) (code abstraction.now) (removals abstraction.now)) (met k n)) (λ _. Applies (claim_of table.now.bytes.now set.now.bytes.now (bits abstraction.now) (code abstraction.now) (removals abstraction.now)) (met k n) → ⊥) }
+    ensures { MatchOption result (Applies (claim_of table.now.bytes.now set.now.bytes.now (A.bits abstraction.now) (A.code abstraction.now) (A.removals abstraction.now)) (met k n)) (λ _. Applies (claim_of table.now.bytes.now set.now.bytes.now (A.bits abstraction.now) (A.code abstraction.now) (A.removals abstraction.now)) (met k n) → ⊥) }
 {
     let count = table.pattern_line_count();
     if first < count && keeps(table, set, abstraction, k, plan, held, n, first) {
@@ -118,8 +118,8 @@ pub(crate) fn check_patterns<A: QueueAbstraction>(
 ) -> Result<(), Fault>
     requires ready { Ready table.now.bytes.now }
     requires planned { Planned table.now.bytes.now plan.now }
-    requires judging { Judging (claim_of table.now.bytes.now set.now.bytes.now (bits abstraction.now) (code abstraction.now) (removals abstraction.now)) (machines_n table.now.bytes.now) k held.now }
-    ensures { Judged (claim_of table.now.bytes.now set.now.bytes.now (bits abstraction.now) (code abstraction.now) (removals abstraction.now)) (patterns (claim_of table.now.bytes.now set.now.bytes.now (bits abstraction.now) (code abstraction.now) (removals abstraction.now)) k) result }
+    requires judging { Judging (claim_of table.now.bytes.now set.now.bytes.now (A.bits abstraction.now) (A.code abstraction.now) (A.removals abstraction.now)) (machines_n table.now.bytes.now) k held.now }
+    ensures { Judged (claim_of table.now.bytes.now set.now.bytes.now (A.bits abstraction.now) (A.code abstraction.now) (A.removals abstraction.now)) (patterns (claim_of table.now.bytes.now set.now.bytes.now (A.bits abstraction.now) (A.code abstraction.now) (A.removals abstraction.now)) k) result }
 {
     for n in 0..table.pattern_count() {
         match kept_by(table, set, abstraction, k, plan, held, n, hints.line(n)) {

@@ -64,9 +64,9 @@ fn moved<A: QueueAbstraction>(
     number: u64,
 ) -> Held
     requires ready { Ready table.now.bytes.now }
-    requires judging { Judging (claim_of table.now.bytes.now set.now.bytes.now (bits abstraction.now) (code abstraction.now) (removals abstraction.now)) (machines_n table.now.bytes.now) k held.now }
+    requires judging { Judging (claim_of table.now.bytes.now set.now.bytes.now (A.bits abstraction.now) (A.code abstraction.now) (A.removals abstraction.now)) (machines_n table.now.bytes.now) k held.now }
     requires below { mover.machine < machines_n table.now.bytes.now }
-    ensures is { record_in result ≡ moved_in mover number (record_of (claim_of table.now.bytes.now set.now.bytes.now (bits abstraction.now) (code abstraction.now) (removals abstraction.now)) k) }
+    ensures is { record_in result ≡ moved_in mover number (record_of (claim_of table.now.bytes.now set.now.bytes.now (A.bits abstraction.now) (A.code abstraction.now) (A.removals abstraction.now)) k) }
     ensures machines { result.machines ≡ machines_n table.now.bytes.now }
     ensures sized { length (record_in result) ≡ machines_n table.now.bytes.now }
 {
@@ -93,10 +93,10 @@ fn check_local<A: QueueAbstraction>(
 ) -> Result<(), Fault>
     requires ready { Ready table.now.bytes.now }
     requires rising { SetReady (machines_n table.now.bytes.now) set.now.bytes.now }
-    requires judging { Judging (claim_of table.now.bytes.now set.now.bytes.now (bits abstraction.now) (code abstraction.now) (removals abstraction.now)) (machines_n table.now.bytes.now) k held.now }
-    requires enabled { Enabled (claim_of table.now.bytes.now set.now.bytes.now (bits abstraction.now) (code abstraction.now) (removals abstraction.now)) k r mover Local }
+    requires judging { Judging (claim_of table.now.bytes.now set.now.bytes.now (A.bits abstraction.now) (A.code abstraction.now) (A.removals abstraction.now)) (machines_n table.now.bytes.now) k held.now }
+    requires enabled { Enabled (claim_of table.now.bytes.now set.now.bytes.now (A.bits abstraction.now) (A.code abstraction.now) (A.removals abstraction.now)) k r mover Local }
     requires below { mover.machine < machines_n table.now.bytes.now }
-    ensures { Judged (claim_of table.now.bytes.now set.now.bytes.now (bits abstraction.now) (code abstraction.now) (removals abstraction.now)) (one (outside k r 0)) result }
+    ensures { Judged (claim_of table.now.bytes.now set.now.bytes.now (A.bits abstraction.now) (A.code abstraction.now) (A.removals abstraction.now)) (one (outside k r 0)) result }
 {
     let own = entry_at(held, mover.machine);
     inside(
@@ -126,11 +126,11 @@ fn take_inside<A: QueueAbstraction>(
 ) -> Result<(), Fault>
     requires ready { Ready table.now.bytes.now }
     requires rising { SetReady (machines_n table.now.bytes.now) set.now.bytes.now }
-    requires judging { Judging (claim_of table.now.bytes.now set.now.bytes.now (bits abstraction.now) (code abstraction.now) (removals abstraction.now)) (machines_n table.now.bytes.now) k held.now }
-    requires enabled { Enabled (claim_of table.now.bytes.now set.now.bytes.now (bits abstraction.now) (code abstraction.now) (removals abstraction.now)) k r taker (Take event) }
+    requires judging { Judging (claim_of table.now.bytes.now set.now.bytes.now (A.bits abstraction.now) (A.code abstraction.now) (A.removals abstraction.now)) (machines_n table.now.bytes.now) k held.now }
+    requires enabled { Enabled (claim_of table.now.bytes.now set.now.bytes.now (A.bits abstraction.now) (A.code abstraction.now) (A.removals abstraction.now)) k r taker (Take event) }
     requires below { taker.machine < machines_n table.now.bytes.now }
-    requires removal { slice_get (removals abstraction.now (events_n table.now.bytes.now) (code_in (record_of (claim_of table.now.bytes.now set.now.bytes.now (bits abstraction.now) (code abstraction.now) (removals abstraction.now)) k) taker.machine)) c ≡ Some (taken, left) }
-    ensures { Judged (claim_of table.now.bytes.now set.now.bytes.now (bits abstraction.now) (code abstraction.now) (removals abstraction.now)) (one (outside k r c)) result }
+    requires removal { slice_get (A.removals abstraction.now (events_n table.now.bytes.now) (code_in (record_of (claim_of table.now.bytes.now set.now.bytes.now (A.bits abstraction.now) (A.code abstraction.now) (A.removals abstraction.now)) k) taker.machine)) c ≡ Some (taken, left) }
+    ensures { Judged (claim_of table.now.bytes.now set.now.bytes.now (A.bits abstraction.now) (A.code abstraction.now) (A.removals abstraction.now)) (one (outside k r c)) result }
 {
     if taken != event {
         return Ok(());
@@ -159,10 +159,10 @@ fn check_take<A: QueueAbstraction>(
 ) -> Result<(), Fault>
     requires ready { Ready table.now.bytes.now }
     requires rising { SetReady (machines_n table.now.bytes.now) set.now.bytes.now }
-    requires judging { Judging (claim_of table.now.bytes.now set.now.bytes.now (bits abstraction.now) (code abstraction.now) (removals abstraction.now)) (machines_n table.now.bytes.now) k held.now }
-    requires enabled { Enabled (claim_of table.now.bytes.now set.now.bytes.now (bits abstraction.now) (code abstraction.now) (removals abstraction.now)) k r taker (Take event) }
+    requires judging { Judging (claim_of table.now.bytes.now set.now.bytes.now (A.bits abstraction.now) (A.code abstraction.now) (A.removals abstraction.now)) (machines_n table.now.bytes.now) k held.now }
+    requires enabled { Enabled (claim_of table.now.bytes.now set.now.bytes.now (A.bits abstraction.now) (A.code abstraction.now) (A.removals abstraction.now)) k r taker (Take event) }
     requires below { taker.machine < machines_n table.now.bytes.now }
-    ensures { Judged (claim_of table.now.bytes.now set.now.bytes.now (bits abstraction.now) (code abstraction.now) (removals abstraction.now)) (each (length (removals abstraction.now (events_n table.now.bytes.now) (code_in (record_of (claim_of table.now.bytes.now set.now.bytes.now (bits abstraction.now) (code abstraction.now) (removals abstraction.now)) k) taker.machine))) (λ c. one (outside k r c))) result }
+    ensures { Judged (claim_of table.now.bytes.now set.now.bytes.now (A.bits abstraction.now) (A.code abstraction.now) (A.removals abstraction.now)) (each (length (A.removals abstraction.now (events_n table.now.bytes.now) (code_in (record_of (claim_of table.now.bytes.now set.now.bytes.now (A.bits abstraction.now) (A.code abstraction.now) (A.removals abstraction.now)) k) taker.machine))) (λ c. one (outside k r c))) result }
 {
     let m = events(table);
     let own = entry_at(held, taker.machine);
@@ -202,12 +202,12 @@ fn check_send<A: QueueAbstraction>(
 ) -> Result<(), Fault>
     requires ready { Ready table.now.bytes.now }
     requires rising { SetReady (machines_n table.now.bytes.now) set.now.bytes.now }
-    requires judging { Judging (claim_of table.now.bytes.now set.now.bytes.now (bits abstraction.now) (code abstraction.now) (removals abstraction.now)) (machines_n table.now.bytes.now) k held.now }
-    requires enabled { Enabled (claim_of table.now.bytes.now set.now.bytes.now (bits abstraction.now) (code abstraction.now) (removals abstraction.now)) k r sender (Send event target) }
+    requires judging { Judging (claim_of table.now.bytes.now set.now.bytes.now (A.bits abstraction.now) (A.code abstraction.now) (A.removals abstraction.now)) (machines_n table.now.bytes.now) k held.now }
+    requires enabled { Enabled (claim_of table.now.bytes.now set.now.bytes.now (A.bits abstraction.now) (A.code abstraction.now) (A.removals abstraction.now)) k r sender (Send event target) }
     requires below { sender.machine < machines_n table.now.bytes.now }
     requires there { target < machines_n table.now.bytes.now }
     requires named { event < events_n table.now.bytes.now }
-    ensures { Judged (claim_of table.now.bytes.now set.now.bytes.now (bits abstraction.now) (code abstraction.now) (removals abstraction.now)) (one (outside k r 0)) result }
+    ensures { Judged (claim_of table.now.bytes.now set.now.bytes.now (A.bits abstraction.now) (A.code abstraction.now) (A.removals abstraction.now)) (one (outside k r 0)) result }
 {
     let own = entry_at(held, sender.machine);
     let there = entry_at(held, target);
@@ -247,9 +247,9 @@ fn check_rule<A: QueueAbstraction>(
     requires ready { Ready table.now.bytes.now }
     requires rising { SetReady (machines_n table.now.bytes.now) set.now.bytes.now }
     requires planned { Planned table.now.bytes.now plan.now }
-    requires judging { Judging (claim_of table.now.bytes.now set.now.bytes.now (bits abstraction.now) (code abstraction.now) (removals abstraction.now)) (machines_n table.now.bytes.now) k held.now }
+    requires judging { Judging (claim_of table.now.bytes.now set.now.bytes.now (A.bits abstraction.now) (A.code abstraction.now) (A.removals abstraction.now)) (machines_n table.now.bytes.now) k held.now }
     requires below { r < rules_n table.now.bytes.now }
-    ensures { Judged (claim_of table.now.bytes.now set.now.bytes.now (bits abstraction.now) (code abstraction.now) (removals abstraction.now)) (outcomes_of (claim_of table.now.bytes.now set.now.bytes.now (bits abstraction.now) (code abstraction.now) (removals abstraction.now)) k r) result }
+    ensures { Judged (claim_of table.now.bytes.now set.now.bytes.now (A.bits abstraction.now) (A.code abstraction.now) (A.removals abstraction.now)) (outcomes_of (claim_of table.now.bytes.now set.now.bytes.now (A.bits abstraction.now) (A.code abstraction.now) (A.removals abstraction.now)) k r) result }
 {
     let stepper = plan.rule(r);
     let own = entry_at(held, stepper.machine);
@@ -298,9 +298,9 @@ fn machine_inside<A: QueueAbstraction>(
     requires ready { Ready table.now.bytes.now }
     requires rising { SetReady (machines_n table.now.bytes.now) set.now.bytes.now }
     requires planned { Planned table.now.bytes.now plan.now }
-    requires judging { Judging (claim_of table.now.bytes.now set.now.bytes.now (bits abstraction.now) (code abstraction.now) (removals abstraction.now)) (machines_n table.now.bytes.now) k held.now }
+    requires judging { Judging (claim_of table.now.bytes.now set.now.bytes.now (A.bits abstraction.now) (A.code abstraction.now) (A.removals abstraction.now)) (machines_n table.now.bytes.now) k held.now }
     requires below { i < machines_n table.now.bytes.now }
-    ensures { result ≡ true → (r : ℕ) → r < rules_n table.now.bytes.now → (rule_of (system_of table.now.bytes.now) r).machine ≡ i → Nothing (Applies (claim_of table.now.bytes.now set.now.bytes.now (bits abstraction.now) (code abstraction.now) (removals abstraction.now))) (outcomes_of (claim_of table.now.bytes.now set.now.bytes.now (bits abstraction.now) (code abstraction.now) (removals abstraction.now)) k r) }
+    ensures { result ≡ true → (r : ℕ) → r < rules_n table.now.bytes.now → (rule_of (system_of table.now.bytes.now) r).machine ≡ i → Nothing (Applies (claim_of table.now.bytes.now set.now.bytes.now (A.bits abstraction.now) (A.code abstraction.now) (A.removals abstraction.now))) (outcomes_of (claim_of table.now.bytes.now set.now.bytes.now (A.bits abstraction.now) (A.code abstraction.now) (A.removals abstraction.now)) k r) }
 {
     let mut r = plan.first(i, entry_at(held, i).local);
     while r < plan.rule_count() {
@@ -325,8 +325,8 @@ fn all_inside<A: QueueAbstraction>(
     requires ready { Ready table.now.bytes.now }
     requires rising { SetReady (machines_n table.now.bytes.now) set.now.bytes.now }
     requires planned { Planned table.now.bytes.now plan.now }
-    requires judging { Judging (claim_of table.now.bytes.now set.now.bytes.now (bits abstraction.now) (code abstraction.now) (removals abstraction.now)) (machines_n table.now.bytes.now) k held.now }
-    ensures { result ≡ true → Nothing (Applies (claim_of table.now.bytes.now set.now.bytes.now (bits abstraction.now) (code abstraction.now) (removals abstraction.now))) (steps (claim_of table.now.bytes.now set.now.bytes.now (bits abstraction.now) (code abstraction.now) (removals abstraction.now)) k) }
+    requires judging { Judging (claim_of table.now.bytes.now set.now.bytes.now (A.bits abstraction.now) (A.code abstraction.now) (A.removals abstraction.now)) (machines_n table.now.bytes.now) k held.now }
+    ensures { result ≡ true → Nothing (Applies (claim_of table.now.bytes.now set.now.bytes.now (A.bits abstraction.now) (A.code abstraction.now) (A.removals abstraction.now))) (steps (claim_of table.now.bytes.now set.now.bytes.now (A.bits abstraction.now) (A.code abstraction.now) (A.removals abstraction.now)) k) }
 {
     for i in 0..held.machines {
         if !machine_inside(table, set, abstraction, plan, hints, k, held, i) {
@@ -349,8 +349,8 @@ pub(crate) fn check_steps<A: QueueAbstraction>(
     requires ready { Ready table.now.bytes.now }
     requires rising { SetReady (machines_n table.now.bytes.now) set.now.bytes.now }
     requires planned { Planned table.now.bytes.now plan.now }
-    requires judging { Judging (claim_of table.now.bytes.now set.now.bytes.now (bits abstraction.now) (code abstraction.now) (removals abstraction.now)) (machines_n table.now.bytes.now) k held.now }
-    ensures { Judged (claim_of table.now.bytes.now set.now.bytes.now (bits abstraction.now) (code abstraction.now) (removals abstraction.now)) (steps (claim_of table.now.bytes.now set.now.bytes.now (bits abstraction.now) (code abstraction.now) (removals abstraction.now)) k) result }
+    requires judging { Judging (claim_of table.now.bytes.now set.now.bytes.now (A.bits abstraction.now) (A.code abstraction.now) (A.removals abstraction.now)) (machines_n table.now.bytes.now) k held.now }
+    ensures { Judged (claim_of table.now.bytes.now set.now.bytes.now (A.bits abstraction.now) (A.code abstraction.now) (A.removals abstraction.now)) (steps (claim_of table.now.bytes.now set.now.bytes.now (A.bits abstraction.now) (A.code abstraction.now) (A.removals abstraction.now)) k) result }
 {
     if all_inside(table, set, abstraction, plan, hints, k, held) {
         return Ok(());

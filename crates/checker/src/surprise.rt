@@ -30,9 +30,9 @@ fn lets_surprise<A: QueueAbstraction>(
 ) -> bool
     requires ready { Ready table.now.bytes.now }
     requires planned { Planned table.now.bytes.now plan.now }
-    requires judging { Judging (claim_of table.now.bytes.now set.now.bytes.now (bits abstraction.now) (code abstraction.now) (removals abstraction.now)) (machines_n table.now.bytes.now) k held.now }
+    requires judging { Judging (claim_of table.now.bytes.now set.now.bytes.now (A.bits abstraction.now) (A.code abstraction.now) (A.removals abstraction.now)) (machines_n table.now.bytes.now) k held.now }
     requires below { i < machines_n table.now.bytes.now }
-    ensures { Decides result (Applies (claim_of table.now.bytes.now set.now.bytes.now (bits abstraction.now) (code abstraction.now) (removals abstraction.now)) (surprise k i e)) }
+    ensures { Decides result (Applies (claim_of table.now.bytes.now set.now.bytes.now (A.bits abstraction.now) (A.code abstraction.now) (A.removals abstraction.now)) (surprise k i e)) }
 {
     let entry = entry_at(held, i);
     if plan.has_taker(table, i, entry.local, e) {
@@ -56,9 +56,9 @@ fn machine_surprises<A: QueueAbstraction>(
 ) -> Result<(), Fault>
     requires ready { Ready table.now.bytes.now }
     requires planned { Planned table.now.bytes.now plan.now }
-    requires judging { Judging (claim_of table.now.bytes.now set.now.bytes.now (bits abstraction.now) (code abstraction.now) (removals abstraction.now)) (machines_n table.now.bytes.now) k held.now }
+    requires judging { Judging (claim_of table.now.bytes.now set.now.bytes.now (A.bits abstraction.now) (A.code abstraction.now) (A.removals abstraction.now)) (machines_n table.now.bytes.now) k held.now }
     requires below { i < machines_n table.now.bytes.now }
-    ensures { Judged (claim_of table.now.bytes.now set.now.bytes.now (bits abstraction.now) (code abstraction.now) (removals abstraction.now)) (each (events_n table.now.bytes.now) (λ e. one (surprise k i e))) result }
+    ensures { Judged (claim_of table.now.bytes.now set.now.bytes.now (A.bits abstraction.now) (A.code abstraction.now) (A.removals abstraction.now)) (each (events_n table.now.bytes.now) (λ e. one (surprise k i e))) result }
 {
     for e in 0..events(table) {
         if lets_surprise(table, set, abstraction, k, plan, held, i, e) {
@@ -85,9 +85,9 @@ pub(crate) fn check_surprises<A: QueueAbstraction>(
 ) -> Result<(), Fault>
     requires ready { Ready table.now.bytes.now }
     requires planned { Planned table.now.bytes.now plan.now }
-    requires calm { 0 < k → Calm (claim_of table.now.bytes.now set.now.bytes.now (bits abstraction.now) (code abstraction.now) (removals abstraction.now)) (machines_n table.now.bytes.now) last.now }
-    requires judging { Judging (claim_of table.now.bytes.now set.now.bytes.now (bits abstraction.now) (code abstraction.now) (removals abstraction.now)) (machines_n table.now.bytes.now) k held.now }
-    ensures { Judged (claim_of table.now.bytes.now set.now.bytes.now (bits abstraction.now) (code abstraction.now) (removals abstraction.now)) (surprises (claim_of table.now.bytes.now set.now.bytes.now (bits abstraction.now) (code abstraction.now) (removals abstraction.now)) k) result }
+    requires calm { 0 < k → Calm (claim_of table.now.bytes.now set.now.bytes.now (A.bits abstraction.now) (A.code abstraction.now) (A.removals abstraction.now)) (machines_n table.now.bytes.now) last.now }
+    requires judging { Judging (claim_of table.now.bytes.now set.now.bytes.now (A.bits abstraction.now) (A.code abstraction.now) (A.removals abstraction.now)) (machines_n table.now.bytes.now) k held.now }
+    ensures { Judged (claim_of table.now.bytes.now set.now.bytes.now (A.bits abstraction.now) (A.code abstraction.now) (A.removals abstraction.now)) (surprises (claim_of table.now.bytes.now set.now.bytes.now (A.bits abstraction.now) (A.code abstraction.now) (A.removals abstraction.now)) k) result }
 {
     for i in 0..held.machines {
         if k > 0 && same_entry(held, last, i) {

@@ -32,7 +32,7 @@ pub fn rehearse<A: QueueAbstraction>(
     calls: &[Call],
     answers: &mut [Answer],
 ) -> Result<usize, Fault>
-    ensures { Rehearsed table.now set.now (claim_of table.now set.now (bits abstraction.now) (code abstraction.now) (removals abstraction.now)) capacity calls.now answers.old answers.new result }
+    ensures { Rehearsed table.now set.now (claim_of table.now set.now (A.bits abstraction.now) (A.code abstraction.now) (A.removals abstraction.now)) capacity calls.now answers.old answers.new result }
 {
     let mut pass = check_for_runs(table, set, abstraction)?;
     pass.set_capacity(capacity)?;
@@ -46,7 +46,7 @@ pub fn check_for_runs<'a, A: QueueAbstraction>(
     set: &[u8],
     abstraction: &A,
 ) -> Result<Pass<'a>, Fault>
-    ensures { Promised table.now set.now (claim_of table.now set.now (bits abstraction.now) (code abstraction.now) (removals abstraction.now)) result }
+    ensures { Promised table.now set.now (claim_of table.now set.now (A.bits abstraction.now) (A.code abstraction.now) (A.removals abstraction.now)) result }
 {
     check(table, set, abstraction)
 }

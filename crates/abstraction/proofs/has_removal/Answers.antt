@@ -19,8 +19,8 @@ returns-then-left-d g c =
     let xs = g.A.QueueAbstraction.removals a c.args.m c.args.c in
     (λ _. (g.met.A.QueueAbstraction.meaning a).removed _ _ c.loop-taken.k _ _ (found xs c.loop-taken.k _ _ _ _ c.in-Some.ensures c.if-taken-e.true c.if-left-d.true), λ _. refl)
 
-pub overflow-add-k : goal.overflow-add-k
-overflow-add-k g c =
+pub overflow_add-k : goal.overflow_add-k
+overflow_add-k g c =
     let b = few (g.met.A.QueueAbstraction.meaning c.args.abstraction.now) c.args.m c.args.c in
     record { fits = omega (arith, c.loop-taken.invariant.0) }
 
@@ -44,7 +44,7 @@ pub returns : goal.returns
 returns g c =
     let law = g.met.A.QueueAbstraction.meaning c.args.abstraction.now in
     let xs = g.A.QueueAbstraction.removals c.args.abstraction.now c.args.m c.args.c in
-    let l = past xs c.loop-taken.k (0, 0) (sym c.in-default.ensures) in (
+    let l = past xs c.loop-taken.k (0, 0) (sym c.in_default.ensures) in (
       λ t. absurd (false≢true t),
       λ r. let (k, h) = law.removes _ _ _ _ r in absurd (c.loop-taken.invariant.1 k (omega (arith, nth_within xs k _ h)) h),
     )

@@ -21,8 +21,8 @@ returns-then-mask-one c g =
     let b : c.bit-one.result ≡ 2 ^ e = c.bit-one.ensures.event (omega (arith, l, q, v.few)) ∙ ap (λ (x : ℕ). 2 ^ x) q in
     n (has_bit c.loop-rest.mask e (ap (bit_or c.loop-rest.mask) (sym b) ∙ c.if-mask-one.true))
 
-pub overflow-add-count : goal.overflow-add-count
-overflow-add-count c =
+pub overflow_add-count : goal.overflow_add-count
+overflow_add-count c =
     let v = c.if-not-valid.ensures.0 refl in
     let f = far_few c.args.m c.args.c v _ _ _ c.loop-rest.invariant in
     record { fits = omega arith }

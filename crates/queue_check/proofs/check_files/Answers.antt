@@ -12,10 +12,10 @@ as_named : (table set : List ℕ) (L : Layers) (r : Result Pass Fault) → of_ki
 as_named table set L r e h = subst (λ (M : Layers). Checked table set (claim_under table set (under (word_at set 4) M)) r) (sym e) h
 
 pub returns-in-0 : goal.returns-in-0
-returns-in-0 c = as_named c.args.table.now c.args.set.now _ c.check-kept.result (kind_list (word_at c.args.set.now 2) (sym c.word.ensures ∙ c.in-0.is)) c.check-kept.ensures
+returns-in-0 c = as_named c.args.table.now c.args.set.now _ c.check_kept.result (kind_list (word_at c.args.set.now 2) (sym c.word.ensures ∙ c.in-0.is)) c.check_kept.ensures
 
 pub returns-in-1 : goal.returns-in-1
-returns-in-1 c = as_named c.args.table.now c.args.set.now _ c.check-kept-in-1.result (kind_mask (word_at c.args.set.now 2) (sym c.word.ensures ∙ c.in-1.is)) c.check-kept-in-1.ensures
+returns-in-1 c = as_named c.args.table.now c.args.set.now _ c.check_kept-in-1.result (kind_mask (word_at c.args.set.now 2) (sym c.word.ensures ∙ c.in-1.is)) c.check_kept-in-1.ensures
 
-pub returns-in-default : goal.returns-in-default
-returns-in-default c = as_named c.args.table.now c.args.set.now _ c.check-kept-in-default.result (kind_blank (word_at c.args.set.now 2) (λ z. omega arith) (λ z. omega arith)) c.check-kept-in-default.ensures
+pub returns-in_default : goal.returns-in_default
+returns-in_default c = as_named c.args.table.now c.args.set.now _ c.check_kept-in_default.result (kind_blank (word_at c.args.set.now 2) (λ z. omega arith) (λ z. omega arith)) c.check_kept-in_default.ensures

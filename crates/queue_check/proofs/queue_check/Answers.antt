@@ -4,7 +4,7 @@ use Rattle.queue_check.proofs.Small.{fault_fits}
 use Rattle.queue_check.proofs.queue_check.Goals as goal
 
 pub pack-requires : goal.pack-requires
-pack-requires c = fault_fits c.args.table.now c.args.set.now (λ i. (c.type-inv.table i).fits) (λ i. (c.type-inv.set i).fits) c.in-Err.fault c.in-Err.ensures.1
+pack-requires c = fault_fits c.args.table.now c.args.set.now (λ i. (c.type_inv.table i).fits) (λ i. (c.type_inv.set i).fits) c.in-Err.fault c.in-Err.ensures.1
 
 pub returns-in-Err : goal.returns-in-Err
 returns-in-Err c =
@@ -12,5 +12,5 @@ returns-in-Err c =
       result = Err c.in-Err.fault;
       checked = c.in-Err.ensures;
       is = c.pack.ensures;
-      fits = fault_fits c.args.table.now c.args.set.now (λ i. (c.type-inv.table i).fits) (λ i. (c.type-inv.set i).fits) c.in-Err.fault c.in-Err.ensures.1;
+      fits = fault_fits c.args.table.now c.args.set.now (λ i. (c.type_inv.table i).fits) (λ i. (c.type_inv.set i).fits) c.in-Err.fault c.in-Err.ensures.1;
     }

@@ -7,6 +7,6 @@ use Rattle.std.proofs.lemmas.Bool.Decides.{Decides-eqb}
 pub returns-then-eq : goal.returns-then-eq
 returns-then-eq c = (slice_eq-Decides Decides-eqb _ _ _ c.eq.ensures).0 c.if-eq.true
 
-pub returns-in-err-machine : goal.returns-in-err-machine
-returns-in-err-machine c =
-    rw c.from-residual.ensures (asks_nothing c.args.line.now (λ e. both_ways c.eq.result c.if-eq.false ((slice_eq-Decides Decides-eqb _ _ _ c.eq.ensures).1 e)) c.in-default.ensures c.in-err-machine.ensures)
+pub returns-in_err-machine : goal.returns-in_err-machine
+returns-in_err-machine c =
+    rw c.from-residual.ensures (asks_nothing c.args.line.now (λ e. both_ways c.eq.result c.if-eq.false ((slice_eq-Decides Decides-eqb _ _ _ c.eq.ensures).1 e)) c.in_default.ensures c.in_err-machine.ensures)

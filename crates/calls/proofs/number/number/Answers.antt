@@ -7,18 +7,18 @@ use Rattle.std.proofs.lemmas.Str.{digit_value_digit}
 use Rattle.calls.proofs.Values.{value_front}
 use Rattle.calls.proofs.number.number.Goals as goal
 
-pub returns-then-not-is-ascii-digit : goal.returns-then-not-is-ascii-digit
-returns-then-not-is-ascii-digit c =
+pub returns-then-not-is_ascii_digit : goal.returns-then-not-is_ascii_digit
+returns-then-not-is_ascii_digit c =
     λ n w. let d = digit_at c.args.digits.now c.loop-digit.digit-index w.digits.1 c.loop-digit-test.true in
-    omega (arith, d, c.if-not-is-ascii-digit.ensures.cases)
+    omega (arith, d, c.if-not-is_ascii_digit.ensures.cases)
 
 pub returns-then-number-gt-MOST : goal.returns-then-number-gt-MOST
 returns-then-number-gt-MOST c =
-    λ n w. omega (arith, c.loop-digit.invariant.1, digit_value_digit (get_or c.args.digits.now c.loop-digit.digit-index 0) c.if-not-is-ascii-digit.ensures.cases, digits_value_more 10 c.args.digits.now c.loop-digit.digit-index c.loop-digit-test.true, value_front c.args.digits.now (c.loop-digit.digit-index + 1))
+    λ n w. omega (arith, c.loop-digit.invariant.1, digit_value_digit (get_or c.args.digits.now c.loop-digit.digit-index 0) c.if-not-is_ascii_digit.ensures.cases, digits_value_more 10 c.args.digits.now c.loop-digit.digit-index c.loop-digit-test.true, value_front c.args.digits.now (c.loop-digit.digit-index + 1))
 
 pub loop-digit-preserved : goal.loop-digit-preserved
 loop-digit-preserved c =
-    (digits_more 10 c.args.digits.now c.loop-digit.digit-index c.loop-digit-test.true c.loop-digit.invariant.0 c.if-not-is-ascii-digit.ensures.bound, omega (arith, c.loop-digit.invariant.1, digit_value_digit (get_or c.args.digits.now c.loop-digit.digit-index 0) c.if-not-is-ascii-digit.ensures.cases, digits_value_more 10 c.args.digits.now c.loop-digit.digit-index c.loop-digit-test.true), c.if-number-gt-MOST.false)
+    (digits_more 10 c.args.digits.now c.loop-digit.digit-index c.loop-digit-test.true c.loop-digit.invariant.0 c.if-not-is_ascii_digit.ensures.bound, omega (arith, c.loop-digit.invariant.1, digit_value_digit (get_or c.args.digits.now c.loop-digit.digit-index 0) c.if-not-is_ascii_digit.ensures.cases, digits_value_more 10 c.args.digits.now c.loop-digit.digit-index c.loop-digit-test.true), c.if-number-gt-MOST.false)
 
 pub returns : goal.returns
 returns c =

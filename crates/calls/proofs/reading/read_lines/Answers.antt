@@ -13,9 +13,9 @@ one_more all lines line after xs ys x inv cut reads e more h =
 
 pub loop-line-preserved : goal.loop-line-preserved
 loop-line-preserved c =
-    one_more (lines_of c.args.text.now) (lines_of c.loop-line.rest.now) c.in-Some.line.now (lines_of c.in-Some.after.now) (vec_items c.loop-line.readings) (vec_items c.push.new.self) c.read-line.result c.loop-line.invariant c.in-Some.ensures.0 c.read-line.ensures.reads c.in-ok-push.ensures.items
+    one_more (lines_of c.args.text.now) (lines_of c.loop-line.rest.now) c.in-Some.line.now (lines_of c.in-Some.after.now) (vec_items c.loop-line.readings) (vec_items c.push.new.self) c.read_line.result c.loop-line.invariant c.in-Some.ensures.0 c.read_line.ensures.reads c.in_ok-push.ensures.items
 
 pub returns : goal.returns
 returns c =
     let P : List ℕ → Type 0 = λ l. ReadsAll (lines_of l) [] in
-    subst (λ (rs : List Line). ReadsAll (lines_of c.args.text.now) rs) (append-nil (vec_items c.loop-line.readings)) (c.loop-line.invariant [] (subst P (sym (nil_from_length c.loop-line.rest.now c.in-default.ensures)) tt))
+    subst (λ (rs : List Line). ReadsAll (lines_of c.args.text.now) rs) (append-nil (vec_items c.loop-line.readings)) (c.loop-line.invariant [] (subst P (sym (nil_from_length c.loop-line.rest.now c.in_default.ensures)) tt))

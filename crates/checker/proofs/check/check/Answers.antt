@@ -10,35 +10,35 @@ use Rattle.checker.specs.Verdict.{Applies, numbers, in_table, table_order, set_o
 use Rattle.checker.proofs.Whole.{reads_ready, reads_nothing, fails, closed_safe}
 use Rattle.checker.proofs.check.check.Goals as goal
 
-pub returns-in-err-view : goal.returns-in-err-view
-returns-in-err-view g c =
+pub returns-in_err-view : goal.returns-in_err-view
+returns-in_err-view g c =
     let q = g.A.QueueAbstraction in
     let p = c.args.abstraction.now in
     let bs = c.args.table.now in
     let s = c.args.set.now in
     let T = claim_of bs s (q.bits p) (q.code p) (q.removals p) in
     let e = err_from_is_err_and c.from-residual.result c.from-residual.ensures.1 in
-    let f = c.in-err-view.field-0.0 in
-    let b = answered_first (Applies bs s T) (numbers bs) (table_order bs) (set_order s T) f (answered_under (Applies bs s T) (numbers bs) in_table (reading.order bs) (Err f) c.in-err-view.ensures.verdict) in
+    let f = c.in_err-view.field-0.0 in
+    let b = answered_first (Applies bs s T) (numbers bs) (table_order bs) (set_order s T) f (answered_under (Applies bs s T) (numbers bs) in_table (reading.order bs) (Err f) c.in_err-view.ensures.verdict) in
     rw (e.1, e.2) (fails bs s T f b, b)
 
-pub check-set-requires : goal.check-set-requires
-check-set-requires g c =
-    let v = c.in-ok-view.ensures.verdict in
+pub check_set-requires : goal.check_set-requires
+check_set-requires g c =
+    let v = c.in_ok-view.ensures.verdict in
     record { ready = subst Ready (sym v.0) (reads_ready c.args.table.now v.1) }
 
-pub returns-in-err-check-set : goal.returns-in-err-check-set
-returns-in-err-check-set g c =
+pub returns-in_err-check_set : goal.returns-in_err-check_set
+returns-in_err-check_set g c =
     let q = g.A.QueueAbstraction in
     let p = c.args.abstraction.now in
     let bs = c.args.table.now in
     let s = c.args.set.now in
     let T = claim_of bs s (q.bits p) (q.code p) (q.removals p) in
-    let v = c.in-ok-view.ensures.verdict in
-    let f = c.in-err-check-set.field-0.0 in
-    let e = err_from_is_err_and c.from-residual-in-err-check-set.result c.from-residual-in-err-check-set.ensures.1 in
+    let v = c.in_ok-view.ensures.verdict in
+    let f = c.in_err-check_set.field-0.0 in
+    let e = err_from_is_err_and c.from-residual-in_err-check_set.result c.from-residual-in_err-check_set.ensures.1 in
     let at : List ℕ → List ℕ → Type 0 = λ b o. FirstFault (Applies b o (claim_of b o (q.bits p) (q.code p) (q.removals p))) (numbers b) (set_order o (claim_of b o (q.bits p) (q.code p) (q.removals p))) f in
-    let first : at bs s = subst (λ (o : List ℕ). at bs o) c.over.ensures (subst (λ (b : List ℕ). at b c.over.result.bytes.now) v.0 c.in-err-check-set.ensures.first) in
+    let first : at bs s = subst (λ (o : List ℕ). at bs o) c.over.ensures (subst (λ (b : List ℕ). at b c.over.result.bytes.now) v.0 c.in_err-check_set.ensures.first) in
     let b = answered_after (Applies bs s T) (numbers bs) (table_order bs) (set_order s T) (Err f) (reads_nothing bs s T v.1) first in
     rw (e.1, e.2) (fails bs s T f b, b)
 
@@ -49,8 +49,8 @@ returns g c =
     let bs = c.args.table.now in
     let s = c.args.set.now in
     let T = claim_of bs s (q.bits p) (q.code p) (q.removals p) in
-    let v = c.in-ok-view.ensures.verdict in
-    let h = c.in-ok-check-set.ensures in
+    let v = c.in_ok-view.ensures.verdict in
+    let h = c.in_ok-check_set.ensures in
     let at : List ℕ → List ℕ → Type 0 = λ b o. Nothing (Applies b o (claim_of b o (q.bits p) (q.code p) (q.removals p))) (set_order o (claim_of b o (q.bits p) (q.code p) (q.removals p))) in
     let shut : List ℕ → List ℕ → Type 0 = λ b o. Closed (claim_of b o (q.bits p) (q.code p) (q.removals p)) in
     let nothing : at bs s = subst (λ (o : List ℕ). at bs o) c.over.ensures (subst (λ (b : List ℕ). at b c.over.result.bytes.now) v.0 h.first) in

@@ -5,19 +5,19 @@ use Rattle.checker.specs.SetFile.{claim_of}
 use Rattle.checker.specs.Verdict.{Applies, numbers, form_order, closed_order}
 use Rattle.checker.proofs.check.check_set.Goals as goal
 
-pub returns-in-err-check-form : goal.returns-in-err-check-form
-returns-in-err-check-form g c =
+pub returns-in_err-check_form : goal.returns-in_err-check_form
+returns-in_err-check_form g c =
     let q = g.A.QueueAbstraction in
     let p = c.args.abstraction.now in
     let bs = c.args.table.now.bytes.now in
     let s = c.args.set.now.bytes.now in
     let T = claim_of bs s (q.bits p) (q.code p) (q.removals p) in
     let e = err_from_is_err_and c.from-residual.result c.from-residual.ensures.1 in
-    rw (e.1, e.2) (record { first = answered_first (Applies bs s T) (numbers bs) (form_order s) (closed_order T) _ c.in-err-check-form.ensures.form; closed = tt })
+    rw (e.1, e.2) (record { first = answered_first (Applies bs s T) (numbers bs) (form_order s) (closed_order T) _ c.in_err-check_form.ensures.form; closed = tt })
 
-pub check-closed-requires : goal.check-closed-requires
-check-closed-requires g c =
-    let f = c.in-ok-check-form.ensures.ready in
+pub check_closed-requires : goal.check_closed-requires
+check_closed-requires g c =
+    let f = c.in_ok-check_form.ensures.ready in
     record { ready = c.requires.ready; rising = f.0; sound = f.1.sound }
 
 pub returns : goal.returns
@@ -27,4 +27,4 @@ returns g c =
     let bs = c.args.table.now.bytes.now in
     let s = c.args.set.now.bytes.now in
     let T = claim_of bs s (q.bits p) (q.code p) (q.removals p) in
-    record { first = answered_after (Applies bs s T) (numbers bs) (form_order s) (closed_order T) c.check-closed.result c.in-ok-check-form.ensures.form c.check-closed.ensures.first; closed = c.check-closed.ensures.closed }
+    record { first = answered_after (Applies bs s T) (numbers bs) (form_order s) (closed_order T) c.check_closed.result c.in_ok-check_form.ensures.form c.check_closed.ensures.first; closed = c.check_closed.ensures.closed }

@@ -7,22 +7,22 @@ use Rattle.checker.specs.Verdict.{Applies, numbers, in_header, header_order, for
 use Rattle.checker.proofs.Whole.{head, as_long, form_answered, form_ready}
 use Rattle.checker.proofs.form.check_form.Goals as goal
 
-pub returns-in-err-check-header : goal.returns-in-err-check-header
-returns-in-err-check-header g c =
+pub returns-in_err-check_header : goal.returns-in_err-check_header
+returns-in_err-check_header g c =
     let q = g.A.QueueAbstraction in
     let p = c.args.abstraction.now in
     let bs = c.args.table.now.bytes.now in
     let s = c.args.set.now.bytes.now in
     let T = claim_of bs s (q.bits p) (q.code p) (q.removals p) in
     let e = err_from_is_err_and c.from-residual.result c.from-residual.ensures.1 in
-    let b = answered_under (Applies bs s T) (numbers bs) in_header header_order (Err c.in-err-check-header.field-0.0) c.in-err-check-header.ensures in
-    rw (e.1, e.2) (record { form = answered_first (Applies bs s T) (numbers bs) (under in_header header_order) (each (records_n s) form_of) c.in-err-check-header.field-0.0 b; ready = tt })
+    let b = answered_under (Applies bs s T) (numbers bs) in_header header_order (Err c.in_err-check_header.field-0.0) c.in_err-check_header.ensures in
+    rw (e.1, e.2) (record { form = answered_first (Applies bs s T) (numbers bs) (under in_header header_order) (each (records_n s) form_of) c.in_err-check_header.field-0.0 b; ready = tt })
 
-pub form-records-requires : goal.form-records-requires
-form-records-requires g c =
+pub form_records-requires : goal.form_records-requires
+form_records-requires g c =
     let bs = c.args.table.now.bytes.now in
     let s = c.args.set.now.bytes.now in
-    let h = c.in-ok-check-header.ensures in
+    let h = c.in_ok-check_header.ensures in
     record { ready = c.requires.ready; head = head bs s h; long = as_long bs s h }
 
 pub returns : goal.returns
@@ -32,5 +32,5 @@ returns g c =
     let bs = c.args.table.now.bytes.now in
     let s = c.args.set.now.bytes.now in
     let T = claim_of bs s (q.bits p) (q.code p) (q.removals p) in
-    let h = c.in-ok-check-header.ensures in
-    record { form = form_answered bs s T h c.form-records.result c.form-records.ensures; ready = form_ready bs s T h c.form-records.result c.form-records.ensures }
+    let h = c.in_ok-check_header.ensures in
+    record { form = form_answered bs s T h c.form_records.result c.form_records.ensures; ready = form_ready bs s T h c.form_records.result c.form_records.ensures }

@@ -10,7 +10,7 @@ pub returns : goal.returns
 returns c =
     let table = c.args.table.now.bytes.now in
     let set = c.args.set.now.bytes.now in
-    let r = c.check-fields.result in
-    let read = subst (λ (b : List ℕ). Answered (OutOfBounds b c.header-bounds.result) (λ i. fault_at SetHeader (2 * i)) fields r) c.bytes.ensures c.check-fields.ensures in
+    let r = c.check_fields.result in
+    let read = subst (λ (b : List ℕ). Answered (OutOfBounds b c.header_bounds.result) (λ i. fault_at SetHeader (2 * i)) fields r) c.bytes.ensures c.check_fields.ensures in
     answered_under (HeaderApplies table set) header_numbers field fields r
-    (subst (λ (b : List (ℕ × ℕ)). Answered (OutOfBounds set b) (λ i. fault_at SetHeader (2 * i)) fields r) c.header-bounds.ensures read)
+    (subst (λ (b : List (ℕ × ℕ)). Answered (OutOfBounds set b) (λ i. fault_at SetHeader (2 * i)) fields r) c.header_bounds.ensures read)

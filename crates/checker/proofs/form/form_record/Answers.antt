@@ -18,8 +18,8 @@ record-held-requires g c =
     let in-set : 16 + 9 * n * c.args.k + 9 * n ≤ length bs = omega (arith, room (9 * n) c.args.k (word_at bs 10) c.requires.below, c.requires.long) in
     record { few = omega (arith, c.machines.ensures, c.requires.ready.few); long = subst (λ (z : ℕ). 16 + 9 * z * c.args.k + 9 * z ≤ length bs) (sym c.machines.ensures) in-set }
 
-pub is-sound-requires : goal.is-sound-requires
-is-sound-requires g c =
+pub is_sound-requires : goal.is_sound-requires
+is_sound-requires g c =
     let bs = c.args.set.now.bytes.now in
     let n = machines_n c.args.table.now.bytes.now in
     let e : record_in c.record-held.result ≡ record_at n bs c.args.k = c.record-held.ensures.is ∙ ap (λ (z : ℕ). record_at z bs c.args.k) c.machines.ensures in
@@ -30,11 +30,11 @@ is-sound-requires g c =
       sized = ap length e ∙ record_long n bs c.args.k;
     }
 
-pub returns-then-not-is-sound : goal.returns-then-not-is-sound
-returns-then-not-is-sound g c = record { finding = record_parts c.args.k; numbered = c.fault-at.ensures; first = inl (refl, not_from_Decides _ c.is-sound.ensures c.if-not-is-sound.true) }
+pub returns-then-not-is_sound : goal.returns-then-not-is_sound
+returns-then-not-is_sound g c = record { finding = record_parts c.args.k; numbered = c.fault_at.ensures; first = inl (refl, not_from_Decides _ c.is_sound.ensures c.if-not-is_sound.true) }
 
-pub stands-above-requires : goal.stands-above-requires
-stands-above-requires g c =
+pub stands_above-requires : goal.stands_above-requires
+stands_above-requires g c =
     let bs = c.args.set.now.bytes.now in
     let n = machines_n c.args.table.now.bytes.now in
     let m : c.record-held.result.machines ≡ n = c.record-held.ensures.machines ∙ c.machines.ensures in
@@ -47,19 +47,19 @@ stands-above-requires g c =
       is = c.record-held.ensures.is ∙ ap (λ (z : ℕ). record_at z bs k) (sym c.record-held.ensures.machines);
     }
 
-pub returns-then-not-stands-above : goal.returns-then-not-stands-above
-returns-then-not-stands-above g c =
+pub returns-then-not-stands_above : goal.returns-then-not-stands_above
+returns-then-not-stands_above g c =
     let bs = c.args.set.now.bytes.now in
     let n = machines_n c.args.table.now.bytes.now in
     let m : c.record-held.result.machines ≡ n = c.record-held.ensures.machines ∙ c.machines.ensures in
     let k = c.args.k in
     record {
       finding = record_order k;
-      numbered = c.fault-at-then-not-stands-above.ensures;
+      numbered = c.fault_at-then-not-stands_above.ensures;
       first =
           inr (
-            (λ no. no (c.is-sound.ensures.0 c.if-not-is-sound.false)),
-            (refl, (omega arith, subst (λ (z : ℕ). Before (9 * z) (record_byte z bs (k - 1)) (record_byte z bs k) → ⊥) m (not_from_Decides _ c.stands-above.ensures c.if-not-stands-above.true))),
+            (λ no. no (c.is_sound.ensures.0 c.if-not-is_sound.false)),
+            (refl, (omega arith, subst (λ (z : ℕ). Before (9 * z) (record_byte z bs (k - 1)) (record_byte z bs k) → ⊥) m (not_from_Decides _ c.stands_above.ensures c.if-not-stands_above.true))),
           );
     }
 
@@ -69,4 +69,4 @@ returns g c =
     let n = machines_n c.args.table.now.bytes.now in
     let m : c.record-held.result.machines ≡ n = c.record-held.ensures.machines ∙ c.machines.ensures in
     let k = c.args.k in
-    (c.is-sound.ensures.0 c.if-not-is-sound.false, (λ l. subst (λ (z : ℕ). Before (9 * z) (record_byte z bs (k - 1)) (record_byte z bs k)) m (c.stands-above.ensures.0 c.if-not-stands-above.false)))
+    (c.is_sound.ensures.0 c.if-not-is_sound.false, (λ l. subst (λ (z : ℕ). Before (9 * z) (record_byte z bs (k - 1)) (record_byte z bs k)) m (c.stands_above.ensures.0 c.if-not-stands_above.false)))

@@ -5,20 +5,20 @@ use Rattle.table.specs.Bytes.{word_at}
 use Rattle.table.specs.Layout.{machines_n}
 use Rattle.checker.proofs.form.form_records.Goals as goal
 
-pub returns-in-err-form-record : goal.returns-in-err-form-record
-returns-in-err-form-record g c =
+pub returns-in_err-form_record : goal.returns-in_err-form_record
+returns-in_err-form_record g c =
     let p = err_from_is_err_and c.from-residual.result c.from-residual.ensures.1 in
-    let q = c.in-err-form-record.ensures in
-    rw (p.1, p.2) (record { finding = q.finding; numbered = q.numbered; first = (c.loop-k.k, omega (arith, c.record-count-k-end.ensures), q.first, (λ j l. ((λ no. no (c.loop-k.invariant j l).0), (λ no. no.1 ((c.loop-k.invariant j l).1 no.0))))) })
+    let q = c.in_err-form_record.ensures in
+    rw (p.1, p.2) (record { finding = q.finding; numbered = q.numbered; first = (c.loop-k.k, omega (arith, c.record_count-k-end.ensures), q.first, (λ j l. ((λ no. no (c.loop-k.invariant j l).0), (λ no. no.1 ((c.loop-k.invariant j l).1 no.0))))) })
 
 pub loop-k-preserved : goal.loop-k-preserved
-loop-k-preserved g c = below_more _ c.loop-k.k c.loop-k.invariant c.in-ok-form-record.ensures
+loop-k-preserved g c = below_more _ c.loop-k.k c.loop-k.invariant c.in_ok-form_record.ensures
 
 pub returns : goal.returns
 returns g c =
     let n = machines_n c.args.table.now.bytes.now in
     let bs = c.args.set.now.bytes.now in
     record {
-      sound = λ k l. (c.loop-k.invariant k (omega (arith, c.record-count-k-end.ensures))).0;
-      rising = λ k l. (let e : k + 1 - 1 ≡ k = omega arith in subst (λ (z : ℕ). Before (9 * n) (record_byte n bs z) (record_byte n bs (k + 1))) e ((c.loop-k.invariant (k + 1) (omega (arith, c.record-count-k-end.ensures))).1 (omega arith)));
+      sound = λ k l. (c.loop-k.invariant k (omega (arith, c.record_count-k-end.ensures))).0;
+      rising = λ k l. (let e : k + 1 - 1 ≡ k = omega arith in subst (λ (z : ℕ). Before (9 * n) (record_byte n bs z) (record_byte n bs (k + 1))) e ((c.loop-k.invariant (k + 1) (omega (arith, c.record_count-k-end.ensures))).1 (omega arith)));
     }

@@ -35,6 +35,6 @@ returns g c =
     ∙ ap (λ (z : ℕ). replicate z (0, q.code p (events_n bs) [])) (c.machines.ensures ∙ sym (machines_long bs))
     ∙ sym (map-replicate (λ (x : ℕ × List ℕ). (x.0, q.code p (events_n bs) x.1)) (machines (system_of bs)) (0, [])) in
     let rs = records_of c.uniform-held.result.machines c.args.set.now.bytes.now in
-    let d = subst (λ (b : Bool). Decides b (ListedIn rs (record_in c.uniform-held.result))) (sym c.is-some.ensures) (found_decides rs (record_in c.uniform-held.result) c.find.result c.find.ensures) in
-    subst (λ (z : Record). Decides c.is-some.result (ListedIn (records_of (machines_n bs) c.args.set.now.bytes.now) z)) e
-    (subst (λ (z : ℕ). Decides c.is-some.result (ListedIn (records_of z c.args.set.now.bytes.now) (record_in c.uniform-held.result))) (c.uniform-held.ensures.machines ∙ c.machines.ensures) d)
+    let d = subst (λ (b : Bool). Decides b (ListedIn rs (record_in c.uniform-held.result))) (sym c.is_some.ensures) (found_decides rs (record_in c.uniform-held.result) c.find.result c.find.ensures) in
+    subst (λ (z : Record). Decides c.is_some.result (ListedIn (records_of (machines_n bs) c.args.set.now.bytes.now) z)) e
+    (subst (λ (z : ℕ). Decides c.is_some.result (ListedIn (records_of z c.args.set.now.bytes.now) (record_in c.uniform-held.result))) (c.uniform-held.ensures.machines ∙ c.machines.ensures) d)

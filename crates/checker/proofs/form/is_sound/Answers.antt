@@ -10,15 +10,15 @@ use Rattle.table.specs.Layout.{events_n}
 use Rattle.table.specs.SystemOf.{system_of}
 use Rattle.checker.proofs.form.is_sound.Goals as goal
 
-pub returns-then-not-entry-sound : goal.returns-then-not-entry-sound
-returns-then-not-entry-sound g c =
+pub returns-then-not-entry_sound : goal.returns-then-not-entry_sound
+returns-then-not-entry_sound g c =
     let q = g.A.QueueAbstraction in
     let p = c.args.abstraction.now in
     let bs = c.args.table.now.bytes.now in
     let i = c.loop-i.i in
-    let e = c.entry-at.ensures ∙ ap (λ (z : Record). get_or z i (0, 0)) c.requires.is in
+    let e = c.entry_at.ensures ∙ ap (λ (z : Record). get_or z i (0, 0)) c.requires.is in
     let lt : i < machines (system_of bs) = omega (arith, machines_long bs, c.requires.machines) in
-    decides_false (λ s. not_from_Decides _ c.entry-sound.ensures c.if-not-entry-sound.true (
+    decides_false (λ s. not_from_Decides _ c.entry_sound.ensures c.if-not-entry_sound.true (
       subst (λ (z : ℕ × ℕ). z.0 < states_of (system_of bs) i) (sym e) (s.locals i lt),
       subst (λ (z : ℕ × ℕ). Good (q.bits p) (q.code p) (events_n bs) z.1) (sym e) (s.good i lt),
     ))

@@ -6,26 +6,26 @@ use Rattle.closed_sets.specs.Judging.{surprises, patterns, steps, Applies, numbe
 use Rattle.model.proofs.Findings.{answered_first, answered_after}
 use Rattle.checker.proofs.judge.check_record.Goals as goal
 
-pub returns-in-err-check-surprises : goal.returns-in-err-check-surprises
-returns-in-err-check-surprises g c =
+pub returns-in_err-check_surprises : goal.returns-in_err-check_surprises
+returns-in_err-check_surprises g c =
     let q = g.A.QueueAbstraction in
     let p = c.args.abstraction.now in
     let T = claim_of c.args.table.now.bytes.now c.args.set.now.bytes.now (q.bits p) (q.code p) (q.removals p) in
     let e = err_from_is_err_and c.from-residual.result c.from-residual.ensures.1 in
-    rw (e.1, e.2) (answered_first (Applies T) numbers (surprises T c.args.k) (patterns T c.args.k then steps T c.args.k) _ c.in-err-check-surprises.ensures)
+    rw (e.1, e.2) (answered_first (Applies T) numbers (surprises T c.args.k) (patterns T c.args.k then steps T c.args.k) _ c.in_err-check_surprises.ensures)
 
-pub returns-in-err-check-patterns : goal.returns-in-err-check-patterns
-returns-in-err-check-patterns g c =
+pub returns-in_err-check_patterns : goal.returns-in_err-check_patterns
+returns-in_err-check_patterns g c =
     let q = g.A.QueueAbstraction in
     let p = c.args.abstraction.now in
     let T = claim_of c.args.table.now.bytes.now c.args.set.now.bytes.now (q.bits p) (q.code p) (q.removals p) in
-    let e = err_from_is_err_and c.from-residual-in-err-check-patterns.result c.from-residual-in-err-check-patterns.ensures.1 in
-    rw (e.1, e.2) (answered_after (Applies T) numbers (surprises T c.args.k) (patterns T c.args.k then steps T c.args.k) (Err c.in-err-check-patterns.field-0.0) c.in-ok-check-surprises.ensures (answered_first (Applies T) numbers (patterns T c.args.k) (steps T c.args.k) _ c.in-err-check-patterns.ensures))
+    let e = err_from_is_err_and c.from-residual-in_err-check_patterns.result c.from-residual-in_err-check_patterns.ensures.1 in
+    rw (e.1, e.2) (answered_after (Applies T) numbers (surprises T c.args.k) (patterns T c.args.k then steps T c.args.k) (Err c.in_err-check_patterns.field-0.0) c.in_ok-check_surprises.ensures (answered_first (Applies T) numbers (patterns T c.args.k) (steps T c.args.k) _ c.in_err-check_patterns.ensures))
 
 pub returns : goal.returns
 returns g c =
     let q = g.A.QueueAbstraction in
     let p = c.args.abstraction.now in
     let T = claim_of c.args.table.now.bytes.now c.args.set.now.bytes.now (q.bits p) (q.code p) (q.removals p) in
-    answered_after (Applies T) numbers (surprises T c.args.k) (patterns T c.args.k then steps T c.args.k) _ c.in-ok-check-surprises.ensures
-    (answered_after (Applies T) numbers (patterns T c.args.k) (steps T c.args.k) _ c.in-ok-check-patterns.ensures c.check-steps.ensures)
+    answered_after (Applies T) numbers (surprises T c.args.k) (patterns T c.args.k then steps T c.args.k) _ c.in_ok-check_surprises.ensures
+    (answered_after (Applies T) numbers (patterns T c.args.k) (steps T c.args.k) _ c.in_ok-check_patterns.ensures c.check_steps.ensures)

@@ -13,32 +13,32 @@ pub record-held-requires : goal.record-held-requires
 record-held-requires g c =
     let bs = c.args.set.now.bytes.now in
     let n = machines_n c.args.table.now.bytes.now in
-    let lt : c.loop-k.k < word_at bs 10 = omega (arith, c.record-count-k-end.ensures) in
+    let lt : c.loop-k.k < word_at bs 10 = omega (arith, c.record_count-k-end.ensures) in
     let in-set : 16 + 9 * n * c.loop-k.k + 9 * n ≤ length bs = omega (arith, room (9 * n) c.loop-k.k (word_at bs 10) lt, c.requires.rising.long) in
-    record { few = omega (arith, c.machines-n.ensures, c.requires.ready.few); long = subst (λ (z : ℕ). 16 + 9 * z * c.loop-k.k + 9 * z ≤ length bs) (sym c.machines-n.ensures) in-set }
+    record { few = omega (arith, c.machines_n.ensures, c.requires.ready.few); long = subst (λ (z : ℕ). 16 + 9 * z * c.loop-k.k + 9 * z ≤ length bs) (sym c.machines_n.ensures) in-set }
 
-pub check-record-requires : goal.check-record-requires
-check-record-requires g c =
+pub check_record-requires : goal.check_record-requires
+check_record-requires g c =
     let bs = c.args.set.now.bytes.now in
     let n = machines_n c.args.table.now.bytes.now in
-    let lt : c.loop-k.k < word_at bs 10 = omega (arith, c.record-count-k-end.ensures) in
+    let lt : c.loop-k.k < word_at bs 10 = omega (arith, c.record_count-k-end.ensures) in
     record {
       ready = c.requires.ready;
       rising = c.requires.rising;
-      planned = c.plan-of-plan.ensures;
+      planned = c.plan_of-plan.ensures;
       judging = record {
-        is = c.record-held.ensures.is ∙ ap (λ (z : ℕ). record_at z bs c.loop-k.k) c.machines-n.ensures ∙ sym (record_at_lem n bs c.loop-k.k lt);
+        is = c.record-held.ensures.is ∙ ap (λ (z : ℕ). record_at z bs c.loop-k.k) c.machines_n.ensures ∙ sym (record_at_lem n bs c.loop-k.k lt);
         sound = c.requires.sound c.loop-k.k lt;
-        machines = c.record-held.ensures.machines ∙ c.machines-n.ensures;
+        machines = c.record-held.ensures.machines ∙ c.machines_n.ensures;
       };
       calm = c.loop-k.invariant.1;
     }
 
-pub returns-in-err-check-record : goal.returns-in-err-check-record
-returns-in-err-check-record g c =
+pub returns-in_err-check_record : goal.returns-in_err-check_record
+returns-in_err-check_record g c =
     let p = err_from_is_err_and c.from-residual.result c.from-residual.ensures.1 in
-    let q = c.in-err-check-record.ensures in
-    rw (p.1, p.2) (record { finding = q.finding; numbered = q.numbered; first = (c.loop-k.k, omega (arith, records_long (machines_n c.args.table.now.bytes.now) c.args.set.now.bytes.now, c.record-count-k-end.ensures), q.first, c.loop-k.invariant.0) })
+    let q = c.in_err-check_record.ensures in
+    rw (p.1, p.2) (record { finding = q.finding; numbered = q.numbered; first = (c.loop-k.k, omega (arith, records_long (machines_n c.args.table.now.bytes.now) c.args.set.now.bytes.now, c.record_count-k-end.ensures), q.first, c.loop-k.invariant.0) })
 
 pub loop-k-preserved : goal.loop-k-preserved
 loop-k-preserved g c =
@@ -48,14 +48,14 @@ loop-k-preserved g c =
     let n = machines_n c.args.table.now.bytes.now in
     let k = c.loop-k.k in
     let T = claim_of c.args.table.now.bytes.now bs (q.bits p) (q.code p) (q.removals p) in
-    let lt : k < word_at bs 10 = omega (arith, c.record-count-k-end.ensures) in
+    let lt : k < word_at bs 10 = omega (arith, c.record_count-k-end.ensures) in
     let judging : Judging T n k c.record-held.result = record {
-      is = c.record-held.ensures.is ∙ ap (λ (z : ℕ). record_at z bs k) c.machines-n.ensures ∙ sym (record_at_lem n bs k lt);
+      is = c.record-held.ensures.is ∙ ap (λ (z : ℕ). record_at z bs k) c.machines_n.ensures ∙ sym (record_at_lem n bs k lt);
       sound = c.requires.sound k lt;
-      machines = c.record-held.ensures.machines ∙ c.machines-n.ensures;
+      machines = c.record-held.ensures.machines ∙ c.machines_n.ensures;
     } in
-    let nothing = c.in-ok-check-record.ensures in
+    let nothing = c.in_ok-check_record.ensures in
     (below_more _ k c.loop-k.invariant.0 nothing, λ _. calm_from T (g.met.A.QueueAbstraction.meaning p) n k c.record-held.result judging judging.machines nothing.0)
 
 pub returns : goal.returns
-returns g c = λ j h. c.loop-k.invariant.0 j (omega (arith, records_long (machines_n c.args.table.now.bytes.now) c.args.set.now.bytes.now, c.record-count-k-end.ensures))
+returns g c = λ j h. c.loop-k.invariant.0 j (omega (arith, records_long (machines_n c.args.table.now.bytes.now) c.args.set.now.bytes.now, c.record_count-k-end.ensures))

@@ -11,4 +11,4 @@ value_nth (x ∷ xs) (suc i) = value_nth xs i
 pub returns : goal.returns
 returns c =
     let xs = (system_of c.args.table.now.bytes.now).states in
-    c.unwrap-or.ensures ∙ ap (λ (o : Option ℕ). unwrap_or o 0) (c.local-states.ensures ∙ ap (slice_get xs) c.from.ensures) ∙ value_nth xs c.args.machine
+    c.unwrap_or.ensures ∙ ap (λ (o : Option ℕ). unwrap_or o 0) (c.local_states.ensures ∙ ap (slice_get xs) c.from.ensures) ∙ value_nth xs c.args.machine

@@ -3,8 +3,8 @@ use Rattle.closed_sets.specs.Judging.{met}
 use Rattle.table.proofs.Parts.{patterns_long}
 use Rattle.checker.proofs.pattern.check_patterns.Goals as goal
 
-pub kept-by-requires : goal.kept-by-requires
-kept-by-requires g c = record { ready = c.requires.ready; planned = c.requires.planned; judging = c.requires.judging; below = omega (arith, patterns_long c.args.table.now.bytes.now) }
+pub kept_by-requires : goal.kept_by-requires
+kept_by-requires g c = record { ready = c.requires.ready; planned = c.requires.planned; judging = c.requires.judging; below = omega (arith, patterns_long c.args.table.now.bytes.now) }
 
 pub returns : goal.returns
 returns g c = λ j h. c.loop-n.invariant j (omega arith)

@@ -25,7 +25,7 @@ returns-then-keeps g c =
     let kept = when_true _ _ c.if-keeps.true c.keeps.ensures in
     λ a.
     let all = subst (λ (z : List Condition). MayMeet T (record_of T c.args.k) z) (pattern_at bs c.args.n c.requires.below) (pattern_from T (g.met.A.QueueAbstraction.meaning p) _ c.args.k c.args.held.now c.requires.judging c.requires.ready.proper c.args.n lt a) in
-    kept.1 (kept_all (MayHold T (record_of T c.args.k)) (λ l. condition_at bs (pattern_offset bs l)) (λ l. eqb (number_of bs l) c.args.n) 0 (pattern_lines_n bs) all c.args.first (omega arith) (omega (arith, lines_long bs, c.pattern-line-count-count.ensures)) (eq-eqb _ _ kept.0))
+    kept.1 (kept_all (MayHold T (record_of T c.args.k)) (λ l. condition_at bs (pattern_offset bs l)) (λ l. eqb (number_of bs l) c.args.n) 0 (pattern_lines_n bs) all c.args.first (omega arith) (omega (arith, lines_long bs, c.pattern_line_count-count.ensures)) (eq-eqb _ _ kept.0))
 
 pub returns-then-keeps-2 : goal.returns-then-keeps-2
 returns-then-keeps-2 g c =
@@ -37,7 +37,7 @@ returns-then-keeps-2 g c =
     let kept = when_true _ _ c.if-keeps-2.true c.keeps-in-loop-l.ensures in
     λ a.
     let all = subst (λ (z : List Condition). MayMeet T (record_of T c.args.k) z) (pattern_at bs c.args.n c.requires.below) (pattern_from T (g.met.A.QueueAbstraction.meaning p) _ c.args.k c.args.held.now c.requires.judging c.requires.ready.proper c.args.n lt a) in
-    kept.1 (kept_all (MayHold T (record_of T c.args.k)) (λ l. condition_at bs (pattern_offset bs l)) (λ l. eqb (number_of bs l) c.args.n) 0 (pattern_lines_n bs) all c.loop-l.l (omega arith) (omega (arith, lines_long bs, c.pattern-line-count-count.ensures)) (eq-eqb _ _ kept.0))
+    kept.1 (kept_all (MayHold T (record_of T c.args.k)) (λ l. condition_at bs (pattern_offset bs l)) (λ l. eqb (number_of bs l) c.args.n) 0 (pattern_lines_n bs) all c.loop-l.l (omega arith) (omega (arith, lines_long bs, c.pattern_line_count-count.ensures)) (eq-eqb _ _ kept.0))
 
 pub loop-l-preserved : goal.loop-l-preserved
 loop-l-preserved g c =
@@ -58,10 +58,10 @@ returns g c =
     pattern_if T (g.met.A.QueueAbstraction.meaning p) _ c.args.k c.args.held.now c.requires.judging c.requires.ready.proper c.args.n lt
     (subst (λ (z : List Condition). MayMeet T (record_of T c.args.k) z) (sym (pattern_at bs c.args.n c.requires.below))
     (all_kept (MayHold T (record_of T c.args.k)) (λ l. condition_at bs (pattern_offset bs l)) (λ l. eqb (number_of bs l) c.args.n) 0 (pattern_lines_n bs)
-    (λ j l u e. c.loop-l.invariant j (omega (arith, lines_long bs, c.pattern-line-count-count.ensures)) (eqb-true _ _ e))))
+    (λ j l u e. c.loop-l.invariant j (omega (arith, lines_long bs, c.pattern_line_count-count.ensures)) (eqb-true _ _ e))))
 
 pub keeps-requires-then-first-count : goal.keeps-requires-then-first-count
-keeps-requires-then-first-count g c = record { ready = c.requires.ready; planned = c.requires.planned; judging = c.requires.judging; below = omega (arith, lines_long c.args.table.now.bytes.now, c.pattern-line-count-count.ensures) }
+keeps-requires-then-first-count g c = record { ready = c.requires.ready; planned = c.requires.planned; judging = c.requires.judging; below = omega (arith, lines_long c.args.table.now.bytes.now, c.pattern_line_count-count.ensures) }
 
 pub keeps-requires-in-loop-l : goal.keeps-requires-in-loop-l
-keeps-requires-in-loop-l g c = record { ready = c.requires.ready; planned = c.requires.planned; judging = c.requires.judging; below = omega (arith, lines_long c.args.table.now.bytes.now, c.pattern-line-count-count.ensures) }
+keeps-requires-in-loop-l g c = record { ready = c.requires.ready; planned = c.requires.planned; judging = c.requires.judging; below = omega (arith, lines_long c.args.table.now.bytes.now, c.pattern_line_count-count.ensures) }

@@ -7,8 +7,8 @@ use Rattle.checker.proofs.plan.chains_of.Goals as goal
 pub loop-r-init : goal.loop-r-init
 loop-r-init c =
     let bs = c.args.table.now.bytes.now in
-    let n = c.rule-count-count.result in
-    let is : n ≡ rules_n bs = c.rule-count-count.ensures ∙ rules_long bs in (
+    let n = c.rule_count-count.result in
+    let is : n ≡ rules_n bs = c.rule_count-count.ensures ∙ rules_long bs in (
       omega (arith, is),
       record {
         count = is;

@@ -70,7 +70,7 @@ returns c =
     λ x.
     let j = x.0 in
     let lt : j < word_at bs 10 = omega (arith, x.1, records_long n bs) in
-    let same = same_bytes n bs j r (λ t. (c.type-inv.set t).fits) (sym (record_at_lem n bs j lt) ∙ x.2) in
+    let same = same_bytes n bs j r (λ t. (c.type_inv.set t).fits) (sym (record_at_lem n bs j lt) ∙ x.2) in
     elim (cases_lt j c.loop-low.low) [
       | inl l ↦ before_not (9 * n) (record_byte n bs j) (byte_of r) (i.4 j l) same
       | inr g ↦ before_not (9 * n) (byte_of r) (record_byte n bs j) (i.5 j (omega arith) lt) (same_sym (9 * n) (record_byte n bs j) (byte_of r) same)

@@ -6,7 +6,7 @@ use Rattle.table.specs.SystemOf.{system_of}
 use Rattle.checker.proofs.step.all_inside.Goals as goal
 
 pub loop-i-preserved : goal.loop-i-preserved
-loop-i-preserved g c = below_more _ c.loop-i.i c.loop-i.invariant (c.machine-inside.ensures c.if-not-machine-inside.false)
+loop-i-preserved g c = below_more _ c.loop-i.i c.loop-i.invariant (c.machine_inside.ensures c.if-not-machine_inside.false)
 
 pub returns : goal.returns
 returns g c e r h =

@@ -8,8 +8,8 @@ use Rattle.table.proofs.Parts.{machines_long, rules_long}
 use Rattle.table.specs.SystemOf.{system_of}
 use Rattle.checker.proofs.step.check_rule.Goals as goal
 
-pub entry-at-own-requires : goal.entry-at-own-requires
-entry-at-own-requires g c =
+pub entry_at-own-requires : goal.entry_at-own-requires
+entry_at-own-requires g c =
     let q = g.A.QueueAbstraction in
     let p = c.args.abstraction.now in
     let bs = c.args.table.now.bytes.now in
@@ -29,11 +29,11 @@ returns-then-own-stepper g c =
     let law = g.met.A.QueueAbstraction.meaning p in
     let x = c.rule-stepper.result in
     let lt : c.args.r < length (system_of bs).rules = omega (arith, rules_long bs, c.requires.below) in
-    let own : c.entry-at-own.result.local ≡ local_in (record_of T c.args.k) x.machine = ap (λ (z : ℕ × ℕ). z.0) (entry_is T law _ c.args.k c.args.held.now c.requires.judging x.machine _ _ c.entry-at-own.ensures) in
+    let own : c.entry_at-own.result.local ≡ local_in (record_of T c.args.k) x.machine = ap (λ (z : ℕ × ℕ). z.0) (entry_is T law _ c.args.k c.args.held.now c.requires.judging x.machine _ _ c.entry_at-own.ensures) in
     λ o l a. not_from T law _ c.args.k c.args.held.now c.requires.judging c.requires.ready.proper c.args.r lt x (c.rule-stepper.ensures ∙ c.requires.planned.chained.rules c.args.r (omega arith) c.requires.below) (λ e. c.if-own-stepper.true (own ∙ e)) o a
 
-pub check-local-requires : goal.check-local-requires
-check-local-requires g c =
+pub check_local-requires : goal.check_local-requires
+check_local-requires g c =
     let q = g.A.QueueAbstraction in
     let p = c.args.abstraction.now in
     let bs = c.args.table.now.bytes.now in
@@ -41,7 +41,7 @@ check-local-requires g c =
     let law = g.met.A.QueueAbstraction.meaning p in
     let x = c.rule-stepper.result in
     let lt : c.args.r < length (system_of bs).rules = omega (arith, rules_long bs, c.requires.below) in
-    let own : c.entry-at-own.result.local ≡ local_in (record_of T c.args.k) x.machine = ap (λ (z : ℕ × ℕ). z.0) (entry_is T law _ c.args.k c.args.held.now c.requires.judging x.machine _ _ c.entry-at-own.ensures) in
+    let own : c.entry_at-own.result.local ≡ local_in (record_of T c.args.k) x.machine = ap (λ (z : ℕ × ℕ). z.0) (entry_is T law _ c.args.k c.args.held.now c.requires.judging x.machine _ _ c.entry_at-own.ensures) in
     let f = rule_fits (system_of bs) c.requires.ready.proper c.args.r lt x (c.rule-stepper.ensures ∙ c.requires.planned.chained.rules c.args.r (omega arith) c.requires.below) in
     record {
       ready = c.requires.ready;
@@ -51,8 +51,8 @@ check-local-requires g c =
       below = omega (arith, f.machine, machines_long bs);
     }
 
-pub check-take-requires : goal.check-take-requires
-check-take-requires g c =
+pub check_take-requires : goal.check_take-requires
+check_take-requires g c =
     let q = g.A.QueueAbstraction in
     let p = c.args.abstraction.now in
     let bs = c.args.table.now.bytes.now in
@@ -60,7 +60,7 @@ check-take-requires g c =
     let law = g.met.A.QueueAbstraction.meaning p in
     let x = c.rule-stepper.result in
     let lt : c.args.r < length (system_of bs).rules = omega (arith, rules_long bs, c.requires.below) in
-    let own : c.entry-at-own.result.local ≡ local_in (record_of T c.args.k) x.machine = ap (λ (z : ℕ × ℕ). z.0) (entry_is T law _ c.args.k c.args.held.now c.requires.judging x.machine _ _ c.entry-at-own.ensures) in
+    let own : c.entry_at-own.result.local ≡ local_in (record_of T c.args.k) x.machine = ap (λ (z : ℕ × ℕ). z.0) (entry_is T law _ c.args.k c.args.held.now c.requires.judging x.machine _ _ c.entry_at-own.ensures) in
     let f = rule_fits (system_of bs) c.requires.ready.proper c.args.r lt x (c.rule-stepper.ensures ∙ c.requires.planned.chained.rules c.args.r (omega arith) c.requires.below) in
     record {
       ready = c.requires.ready;
@@ -70,8 +70,8 @@ check-take-requires g c =
       below = omega (arith, f.machine, machines_long bs);
     }
 
-pub check-send-requires : goal.check-send-requires
-check-send-requires g c =
+pub check_send-requires : goal.check_send-requires
+check_send-requires g c =
     let q = g.A.QueueAbstraction in
     let p = c.args.abstraction.now in
     let bs = c.args.table.now.bytes.now in
@@ -79,7 +79,7 @@ check-send-requires g c =
     let law = g.met.A.QueueAbstraction.meaning p in
     let x = c.rule-stepper.result in
     let lt : c.args.r < length (system_of bs).rules = omega (arith, rules_long bs, c.requires.below) in
-    let own : c.entry-at-own.result.local ≡ local_in (record_of T c.args.k) x.machine = ap (λ (z : ℕ × ℕ). z.0) (entry_is T law _ c.args.k c.args.held.now c.requires.judging x.machine _ _ c.entry-at-own.ensures) in
+    let own : c.entry_at-own.result.local ≡ local_in (record_of T c.args.k) x.machine = ap (λ (z : ℕ × ℕ). z.0) (entry_is T law _ c.args.k c.args.held.now c.requires.judging x.machine _ _ c.entry_at-own.ensures) in
     let f = rule_fits (system_of bs) c.requires.ready.proper c.args.r lt x (c.rule-stepper.ensures ∙ c.requires.planned.chained.rules c.args.r (omega arith) c.requires.below) in
     let s = subst (ActionFits (system_of bs)) c.in-Send.is f.action in
     record {
@@ -101,7 +101,7 @@ returns-in-Local g c =
     let law = g.met.A.QueueAbstraction.meaning p in
     let x = c.rule-stepper.result in
     let lt : c.args.r < length (system_of bs).rules = omega (arith, rules_long bs, c.requires.below) in
-    judged_rule T c.args.k c.args.r x Local c.check-local.result (c.rule-stepper.ensures ∙ c.requires.planned.chained.rules c.args.r (omega arith) c.requires.below) c.in-Local.is (judged_one T c.args.k c.args.r c.check-local.result c.check-local.ensures)
+    judged_rule T c.args.k c.args.r x Local c.check_local.result (c.rule-stepper.ensures ∙ c.requires.planned.chained.rules c.args.r (omega arith) c.requires.below) c.in-Local.is (judged_one T c.args.k c.args.r c.check_local.result c.check_local.ensures)
 
 pub returns-in-Take : goal.returns-in-Take
 returns-in-Take g c =
@@ -112,7 +112,7 @@ returns-in-Take g c =
     let law = g.met.A.QueueAbstraction.meaning p in
     let x = c.rule-stepper.result in
     let lt : c.args.r < length (system_of bs).rules = omega (arith, rules_long bs, c.requires.below) in
-    judged_rule T c.args.k c.args.r x (Take c.in-Take.event) c.check-take.result (c.rule-stepper.ensures ∙ c.requires.planned.chained.rules c.args.r (omega arith) c.requires.below) c.in-Take.is c.check-take.ensures
+    judged_rule T c.args.k c.args.r x (Take c.in-Take.event) c.check_take.result (c.rule-stepper.ensures ∙ c.requires.planned.chained.rules c.args.r (omega arith) c.requires.below) c.in-Take.is c.check_take.ensures
 
 pub returns-in-Send : goal.returns-in-Send
 returns-in-Send g c =
@@ -123,4 +123,4 @@ returns-in-Send g c =
     let law = g.met.A.QueueAbstraction.meaning p in
     let x = c.rule-stepper.result in
     let lt : c.args.r < length (system_of bs).rules = omega (arith, rules_long bs, c.requires.below) in
-    judged_rule T c.args.k c.args.r x (Send c.in-Send.event c.in-Send.target) c.check-send.result (c.rule-stepper.ensures ∙ c.requires.planned.chained.rules c.args.r (omega arith) c.requires.below) c.in-Send.is (judged_one T c.args.k c.args.r c.check-send.result c.check-send.ensures)
+    judged_rule T c.args.k c.args.r x (Send c.in-Send.event c.in-Send.target) c.check_send.result (c.rule-stepper.ensures ∙ c.requires.planned.chained.rules c.args.r (omega arith) c.requires.below) c.in-Send.is (judged_one T c.args.k c.args.r c.check_send.result c.check_send.ensures)

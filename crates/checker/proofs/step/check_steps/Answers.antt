@@ -3,17 +3,17 @@ use Rattle.std.proofs.lemmas.Result.{err_from_is_err_and}
 use Rattle.table.proofs.Parts.{rules_long}
 use Rattle.checker.proofs.step.check_steps.Goals as goal
 
-pub check-rule-requires : goal.check-rule-requires
-check-rule-requires g c = record { ready = c.requires.ready; rising = c.requires.rising; planned = c.requires.planned; judging = c.requires.judging; below = omega (arith, rules_long c.args.table.now.bytes.now) }
+pub check_rule-requires : goal.check_rule-requires
+check_rule-requires g c = record { ready = c.requires.ready; rising = c.requires.rising; planned = c.requires.planned; judging = c.requires.judging; below = omega (arith, rules_long c.args.table.now.bytes.now) }
 
-pub returns-in-err-check-rule : goal.returns-in-err-check-rule
-returns-in-err-check-rule g c =
+pub returns-in_err-check_rule : goal.returns-in_err-check_rule
+returns-in_err-check_rule g c =
     let p = err_from_is_err_and c.from-residual.result c.from-residual.ensures.1 in
-    let q = c.in-err-check-rule.ensures in
+    let q = c.in_err-check_rule.ensures in
     rw (p.1, p.2) (record { finding = q.finding; numbered = q.numbered; first = (c.loop-r.r, omega arith, q.first, c.loop-r.invariant) })
 
 pub loop-r-preserved : goal.loop-r-preserved
-loop-r-preserved g c = below_more _ c.loop-r.r c.loop-r.invariant c.in-ok-check-rule.ensures
+loop-r-preserved g c = below_more _ c.loop-r.r c.loop-r.invariant c.in_ok-check_rule.ensures
 
 pub returns : goal.returns
 returns g c = λ j h. c.loop-r.invariant j (omega arith)

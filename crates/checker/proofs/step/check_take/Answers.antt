@@ -10,29 +10,29 @@ use Rattle.closed_sets.specs.Records.{record_of, code_in}
 use Rattle.table.specs.Layout.{events_n}
 use Rattle.checker.proofs.step.check_take.Goals as goal
 
-pub returns-in-err-take-inside : goal.returns-in-err-take-inside
-returns-in-err-take-inside g c =
+pub returns-in_err-take_inside : goal.returns-in_err-take_inside
+returns-in_err-take_inside g c =
     let q = g.A.QueueAbstraction in
     let p = c.args.abstraction.now in
     let T = claim_of c.args.table.now.bytes.now c.args.set.now.bytes.now (q.bits p) (q.code p) (q.removals p) in
     let law = g.met.A.QueueAbstraction.meaning p in
     let xs = q.removals p (events_n c.args.table.now.bytes.now) (code_in (record_of T c.args.k) c.args.taker.machine) in
-    let own : c.entry-at-own.result.code ≡ code_in (record_of T c.args.k) c.args.taker.machine = ap (λ (z : ℕ × ℕ). z.1) (entry_is T law _ c.args.k c.args.held.now c.requires.judging c.args.taker.machine _ _ c.entry-at-own.ensures) in
-    let at : slice_get xs c.loop-taken.c ≡ Some (c.in-Some.taken, c.in-Some.left) = ap (λ (z : ℕ). slice_get (q.removals p (events_n c.args.table.now.bytes.now) z) c.loop-taken.c) (sym own) ∙ ap (λ (z : ℕ). slice_get (q.removals p z c.entry-at-own.result.code) c.loop-taken.c) (sym c.events-m.ensures) ∙ sym c.in-Some.ensures in
+    let own : c.entry_at-own.result.code ≡ code_in (record_of T c.args.k) c.args.taker.machine = ap (λ (z : ℕ × ℕ). z.1) (entry_is T law _ c.args.k c.args.held.now c.requires.judging c.args.taker.machine _ _ c.entry_at-own.ensures) in
+    let at : slice_get xs c.loop-taken.c ≡ Some (c.in-Some.taken, c.in-Some.left) = ap (λ (z : ℕ). slice_get (q.removals p (events_n c.args.table.now.bytes.now) z) c.loop-taken.c) (sym own) ∙ ap (λ (z : ℕ). slice_get (q.removals p z c.entry_at-own.result.code) c.loop-taken.c) (sym c.events-m.ensures) ∙ sym c.in-Some.ensures in
     let lt = nth_within xs c.loop-taken.c _ at in
     let e = err_from_is_err_and c.from-residual.result c.from-residual.ensures.1 in
-    let b = c.in-err-take-inside.ensures in
+    let b = c.in_err-take_inside.ensures in
     rw (e.1, e.2) (record { finding = b.finding; numbered = b.numbered; first = (c.loop-taken.c, lt, b.first, c.loop-taken.invariant.1) })
 
-pub overflow-add-c : goal.overflow-add-c
-overflow-add-c g c =
+pub overflow_add-c : goal.overflow_add-c
+overflow_add-c g c =
     let q = g.A.QueueAbstraction in
     let p = c.args.abstraction.now in
     let T = claim_of c.args.table.now.bytes.now c.args.set.now.bytes.now (q.bits p) (q.code p) (q.removals p) in
     let law = g.met.A.QueueAbstraction.meaning p in
     let xs = q.removals p (events_n c.args.table.now.bytes.now) (code_in (record_of T c.args.k) c.args.taker.machine) in
-    let own : c.entry-at-own.result.code ≡ code_in (record_of T c.args.k) c.args.taker.machine = ap (λ (z : ℕ × ℕ). z.1) (entry_is T law _ c.args.k c.args.held.now c.requires.judging c.args.taker.machine _ _ c.entry-at-own.ensures) in
-    let at : slice_get xs c.loop-taken.c ≡ Some (c.in-Some.taken, c.in-Some.left) = ap (λ (z : ℕ). slice_get (q.removals p (events_n c.args.table.now.bytes.now) z) c.loop-taken.c) (sym own) ∙ ap (λ (z : ℕ). slice_get (q.removals p z c.entry-at-own.result.code) c.loop-taken.c) (sym c.events-m.ensures) ∙ sym c.in-Some.ensures in
+    let own : c.entry_at-own.result.code ≡ code_in (record_of T c.args.k) c.args.taker.machine = ap (λ (z : ℕ × ℕ). z.1) (entry_is T law _ c.args.k c.args.held.now c.requires.judging c.args.taker.machine _ _ c.entry_at-own.ensures) in
+    let at : slice_get xs c.loop-taken.c ≡ Some (c.in-Some.taken, c.in-Some.left) = ap (λ (z : ℕ). slice_get (q.removals p (events_n c.args.table.now.bytes.now) z) c.loop-taken.c) (sym own) ∙ ap (λ (z : ℕ). slice_get (q.removals p z c.entry_at-own.result.code) c.loop-taken.c) (sym c.events-m.ensures) ∙ sym c.in-Some.ensures in
     let lt = nth_within xs c.loop-taken.c _ at in
     let f = few law (events_n c.args.table.now.bytes.now) (code_in (record_of T c.args.k) c.args.taker.machine) in
     record { fits = omega (arith, lt, f) }
@@ -44,8 +44,8 @@ loop-taken-smaller g c =
     let T = claim_of c.args.table.now.bytes.now c.args.set.now.bytes.now (q.bits p) (q.code p) (q.removals p) in
     let law = g.met.A.QueueAbstraction.meaning p in
     let xs = q.removals p (events_n c.args.table.now.bytes.now) (code_in (record_of T c.args.k) c.args.taker.machine) in
-    let own : c.entry-at-own.result.code ≡ code_in (record_of T c.args.k) c.args.taker.machine = ap (λ (z : ℕ × ℕ). z.1) (entry_is T law _ c.args.k c.args.held.now c.requires.judging c.args.taker.machine _ _ c.entry-at-own.ensures) in
-    let at : slice_get xs c.loop-taken.c ≡ Some (c.in-Some.taken, c.in-Some.left) = ap (λ (z : ℕ). slice_get (q.removals p (events_n c.args.table.now.bytes.now) z) c.loop-taken.c) (sym own) ∙ ap (λ (z : ℕ). slice_get (q.removals p z c.entry-at-own.result.code) c.loop-taken.c) (sym c.events-m.ensures) ∙ sym c.in-Some.ensures in
+    let own : c.entry_at-own.result.code ≡ code_in (record_of T c.args.k) c.args.taker.machine = ap (λ (z : ℕ × ℕ). z.1) (entry_is T law _ c.args.k c.args.held.now c.requires.judging c.args.taker.machine _ _ c.entry_at-own.ensures) in
+    let at : slice_get xs c.loop-taken.c ≡ Some (c.in-Some.taken, c.in-Some.left) = ap (λ (z : ℕ). slice_get (q.removals p (events_n c.args.table.now.bytes.now) z) c.loop-taken.c) (sym own) ∙ ap (λ (z : ℕ). slice_get (q.removals p z c.entry_at-own.result.code) c.loop-taken.c) (sym c.events-m.ensures) ∙ sym c.in-Some.ensures in
     let lt = nth_within xs c.loop-taken.c _ at in
     omega (arith, lt)
 
@@ -56,10 +56,10 @@ loop-taken-preserved g c =
     let T = claim_of c.args.table.now.bytes.now c.args.set.now.bytes.now (q.bits p) (q.code p) (q.removals p) in
     let law = g.met.A.QueueAbstraction.meaning p in
     let xs = q.removals p (events_n c.args.table.now.bytes.now) (code_in (record_of T c.args.k) c.args.taker.machine) in
-    let own : c.entry-at-own.result.code ≡ code_in (record_of T c.args.k) c.args.taker.machine = ap (λ (z : ℕ × ℕ). z.1) (entry_is T law _ c.args.k c.args.held.now c.requires.judging c.args.taker.machine _ _ c.entry-at-own.ensures) in
-    let at : slice_get xs c.loop-taken.c ≡ Some (c.in-Some.taken, c.in-Some.left) = ap (λ (z : ℕ). slice_get (q.removals p (events_n c.args.table.now.bytes.now) z) c.loop-taken.c) (sym own) ∙ ap (λ (z : ℕ). slice_get (q.removals p z c.entry-at-own.result.code) c.loop-taken.c) (sym c.events-m.ensures) ∙ sym c.in-Some.ensures in
+    let own : c.entry_at-own.result.code ≡ code_in (record_of T c.args.k) c.args.taker.machine = ap (λ (z : ℕ × ℕ). z.1) (entry_is T law _ c.args.k c.args.held.now c.requires.judging c.args.taker.machine _ _ c.entry_at-own.ensures) in
+    let at : slice_get xs c.loop-taken.c ≡ Some (c.in-Some.taken, c.in-Some.left) = ap (λ (z : ℕ). slice_get (q.removals p (events_n c.args.table.now.bytes.now) z) c.loop-taken.c) (sym own) ∙ ap (λ (z : ℕ). slice_get (q.removals p z c.entry_at-own.result.code) c.loop-taken.c) (sym c.events-m.ensures) ∙ sym c.in-Some.ensures in
     let lt = nth_within xs c.loop-taken.c _ at in
-    (omega (arith, lt), below_more (λ j. Applies T (outside c.args.k c.args.r j) → ⊥) c.loop-taken.c c.loop-taken.invariant.1 c.in-ok-take-inside.ensures)
+    (omega (arith, lt), below_more (λ j. Applies T (outside c.args.k c.args.r j) → ⊥) c.loop-taken.c c.loop-taken.invariant.1 c.in_ok-take_inside.ensures)
 
 pub returns : goal.returns
 returns g c =
@@ -68,7 +68,7 @@ returns g c =
     let T = claim_of c.args.table.now.bytes.now c.args.set.now.bytes.now (q.bits p) (q.code p) (q.removals p) in
     let law = g.met.A.QueueAbstraction.meaning p in
     let xs = q.removals p (events_n c.args.table.now.bytes.now) (code_in (record_of T c.args.k) c.args.taker.machine) in
-    let own : c.entry-at-own.result.code ≡ code_in (record_of T c.args.k) c.args.taker.machine = ap (λ (z : ℕ × ℕ). z.1) (entry_is T law _ c.args.k c.args.held.now c.requires.judging c.args.taker.machine _ _ c.entry-at-own.ensures) in
-    let at : slice_get xs c.loop-taken.c ≡ None = ap (λ (z : ℕ). slice_get (q.removals p (events_n c.args.table.now.bytes.now) z) c.loop-taken.c) (sym own) ∙ ap (λ (z : ℕ). slice_get (q.removals p z c.entry-at-own.result.code) c.loop-taken.c) (sym c.events-m.ensures) ∙ sym c.in-default.ensures in
+    let own : c.entry_at-own.result.code ≡ code_in (record_of T c.args.k) c.args.taker.machine = ap (λ (z : ℕ × ℕ). z.1) (entry_is T law _ c.args.k c.args.held.now c.requires.judging c.args.taker.machine _ _ c.entry_at-own.ensures) in
+    let at : slice_get xs c.loop-taken.c ≡ None = ap (λ (z : ℕ). slice_get (q.removals p (events_n c.args.table.now.bytes.now) z) c.loop-taken.c) (sym own) ∙ ap (λ (z : ℕ). slice_get (q.removals p z c.entry_at-own.result.code) c.loop-taken.c) (sym c.events-m.ensures) ∙ sym c.in_default.ensures in
     let end = past xs c.loop-taken.c (0, 0) at in
     λ j h. c.loop-taken.invariant.1 j (omega (arith, end))

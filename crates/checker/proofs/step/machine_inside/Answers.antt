@@ -18,9 +18,9 @@ pub loop-r-init : goal.loop-r-init
 loop-r-init g c =
     let bs = c.args.table.now.bytes.now in
     let at = c.requires.planned.chained in
-    let x = cell_of c.args.i c.entry-at.result.local in
+    let x = cell_of c.args.i c.entry_at.result.local in
     let small : x < 256 = omega arith in
-    let same : x ≡ cell_of c.args.i (local_in (record_in c.args.held.now) c.args.i) = ap (λ (z : ℕ × ℕ). cell_of c.args.i z.0) c.entry-at.ensures in
+    let same : x ≡ cell_of c.args.i (local_in (record_in c.args.held.now) c.args.i) = ap (λ (z : ℕ × ℕ). cell_of c.args.i z.0) c.entry_at.ensures in
     let is = c.first-r.ensures in
     ((λ l. ap (cell_at bs) is ∙ at.headed x small (subst (λ (z : ℕ). z < rules_n bs) is l) ∙ same), (λ j l u e. absurd (at.heads x small j (omega arith) (subst (λ (z : ℕ). j < z) is l) u (e ∙ sym same))))
 
@@ -33,7 +33,7 @@ loop-r-preserved g c =
     let at = c.requires.planned.chained in
     let r = c.loop-r.r in
     let inv = c.loop-r.invariant in
-    let lt : r < rules_n bs = omega (arith, c.loop-r-test.true, c.rule-count.ensures, at.count) in
+    let lt : r < rules_n bs = omega (arith, c.loop-r-test.true, c.rule_count.ensures, at.count) in
     let is = c.after-r.ensures in (
       (λ l. ap (cell_at bs) is ∙ at.linked r (omega arith) lt (subst (λ (z : ℕ). z < rules_n bs) is l) ∙ inv.0 lt),
       (λ j l u e. elim (cases_lt j r) [
@@ -57,6 +57,6 @@ returns g c e r h m =
     let is : own ≡ local_in (record_of T c.args.k) c.args.i = ap (λ (z : Record). local_in z c.args.i) c.requires.judging.is in
     let lt : r < length (system_of bs).rules = omega (arith, rules_long bs, h) in
     elim (cases_eq x.from own) [
-      | inl s ↦ c.loop-r.invariant.1 r (omega (arith, c.loop-r-test.false, c.rule-count.ensures, c.requires.planned.chained.count)) h (ap (λ (z : ℕ). cell_of z x.from) m ∙ ap (cell_of c.args.i) s)
+      | inl s ↦ c.loop-r.invariant.1 r (omega (arith, c.loop-r-test.false, c.rule_count.ensures, c.requires.planned.chained.count)) h (ap (λ (z : ℕ). cell_of z x.from) m ∙ ap (cell_of c.args.i) s)
       | inr ne ↦ (λ o l a. not_from T law _ c.args.k c.args.held.now c.requires.judging c.requires.ready.proper r lt x refl (λ f. ne (sym f ∙ ap (local_in (record_of T c.args.k)) m ∙ sym is)) o a)
     ]

@@ -7,20 +7,20 @@ use Rattle.table.specs.SystemOf.{system_of}
 use Rattle.table.proofs.Parts.{machines_long}
 use Rattle.checker.proofs.surprise.check_surprises.Goals as goal
 
-pub returns-in-err-machine-surprises : goal.returns-in-err-machine-surprises
-returns-in-err-machine-surprises g c =
+pub returns-in_err-machine_surprises : goal.returns-in_err-machine_surprises
+returns-in_err-machine_surprises g c =
     let p = err_from_is_err_and c.from-residual.result c.from-residual.ensures.1 in
-    let q = c.in-err-machine-surprises.ensures in
+    let q = c.in_err-machine_surprises.ensures in
     rw (p.1, p.2) (record { finding = q.finding; numbered = q.numbered; first = (c.loop-i.i, omega (arith, machines_long c.args.table.now.bytes.now, c.requires.judging.machines), q.first, c.loop-i.invariant) })
 
 pub loop-i-preserved : goal.loop-i-preserved
-loop-i-preserved g c = below_more _ c.loop-i.i c.loop-i.invariant c.in-ok-machine-surprises.ensures
+loop-i-preserved g c = below_more _ c.loop-i.i c.loop-i.invariant c.in_ok-machine_surprises.ensures
 
 pub returns : goal.returns
 returns g c = λ j h. c.loop-i.invariant j (omega (arith, machines_long c.args.table.now.bytes.now, c.requires.judging.machines))
 
-pub loop-i-preserved-then-same-entry : goal.loop-i-preserved-then-same-entry
-loop-i-preserved-then-same-entry g c =
+pub loop-i-preserved-then-same_entry : goal.loop-i-preserved-then-same_entry
+loop-i-preserved-then-same_entry g c =
     let q = g.A.QueueAbstraction in
     let p = c.args.abstraction.now in
     let bs = c.args.table.now.bytes.now in
@@ -28,4 +28,4 @@ loop-i-preserved-then-same-entry g c =
     let lt : c.loop-i.i < machines (system_of bs) = omega (arith, machines_long bs, c.requires.judging.machines) in
     let calm = c.requires.calm (omega arith) in
     below_more _ c.loop-i.i c.loop-i.invariant (λ e le.
-    surprise_as_before T (g.met.A.QueueAbstraction.meaning p) _ c.args.k c.args.held.now c.requires.judging c.args.last.now c.loop-i.i e lt (c.same-entry.ensures c.if-same-entry.true) (calm.calm c.loop-i.i e lt le))
+    surprise_as_before T (g.met.A.QueueAbstraction.meaning p) _ c.args.k c.args.held.now c.requires.judging c.args.last.now c.loop-i.i e lt (c.same_entry.ensures c.if-same_entry.true) (calm.calm c.loop-i.i e lt le))

@@ -10,21 +10,21 @@ use Rattle.controller.specs.declared.call.Answer.{Answer}
 use Rattle.controller.proofs.Runs.{run_safe, places_run, loaded_answers}
 use Rattle.controller.proofs.run.rehearse.Goals as goal
 
-pub returns-in-err-pass : goal.returns-in-err-pass
-returns-in-err-pass g c =
+pub returns-in_err-pass : goal.returns-in_err-pass
+returns-in_err-pass g c =
     let e = err_from_is_err_and c.from-residual.result c.from-residual.ensures.1 in
-    rw (e.1, e.2) (refl, inl c.in-err-pass.ensures.checked)
+    rw (e.1, e.2) (refl, inl c.in_err-pass.ensures.checked)
 
-pub returns-in-err-set-capacity : goal.returns-in-err-set-capacity
-returns-in-err-set-capacity g c =
-    let e = err_from_is_err_and c.from-residual-in-err-set-capacity.result c.from-residual-in-err-set-capacity.ensures.1 in
-    let h = c.in-err-set-capacity.ensures.set in
-    rw (e.1, e.2) (refl, inr (c.in-ok-pass.ensures.exactly, h.0, h.1))
+pub returns-in_err-set_capacity : goal.returns-in_err-set_capacity
+returns-in_err-set_capacity g c =
+    let e = err_from_is_err_and c.from-residual-in_err-set_capacity.result c.from-residual-in_err-set_capacity.ensures.1 in
+    let h = c.in_err-set_capacity.ensures.set in
+    rw (e.1, e.2) (refl, inr (c.in_ok-pass.ensures.exactly, h.0, h.1))
 
 pub returns : goal.returns
 returns g c =
-    let p = c.in-ok-pass.ensures.checked in
-    let h = c.in-ok-set-capacity.ensures in
+    let p = c.in_ok-pass.ensures.checked in
+    let h = c.in_ok-set_capacity.ensures in
     let l = c.load-controller.ensures in
     let me = c.load-controller.result in
     let bs = c.args.table.now in
@@ -32,16 +32,16 @@ returns g c =
     let cap = c.args.capacity in
     let E = c.args.answers.now in
     let cs = made c.args.calls.now E in
-    let bytes : c.set-capacity.new.self.table.bytes.now ≡ bs = ap (λ (t : Table). t.bytes.now) h.table ∙ p.0 in
+    let bytes : c.set_capacity.new.self.table.bytes.now ≡ bs = ap (λ (t : Table). t.bytes.now) h.table ∙ p.0 in
     let eS : system_in me ≡ S = l.whole (subst Reads (sym bytes) p.2.reads) ∙ ap system_of bytes in
     let ec : me.capacity ≡ cap = l.granted (omega (arith, h.set.1, h.set.2)) ∙ h.set.2 in
-    let answered : c.answer-all.new.answers ≡ filled (answers_to S cap (start S) cs) E = c.answer-all.ensures.answers ∙ ap (λ (a : List Answer). filled a E) (loaded_answers (system_in me) S me.capacity cap (state_in me) eS ec l.state cs) in
+    let answered : c.answer_all.new.answers ≡ filled (answers_to S cap (start S) cs) E = c.answer_all.ensures.answers ∙ ap (λ (a : List Answer). filled a E) (loaded_answers (system_in me) S me.capacity cap (state_in me) eS ec l.state cs) in
     record {
       passes = p.2;
       some = h.set.0;
       few = h.set.1;
-      count = c.answer-all.ensures.count;
+      count = c.answer_all.ensures.count;
       answered = answered;
-      related = (after S cap (start S) cs, places_run S cap cs (start S) c.answer-all.result E c.answer-all.new.answers (after S cap (start S) cs) c.answer-all.ensures.count answered refl);
+      related = (after S cap (start S) cs, places_run S cap cs (start S) c.answer_all.result E c.answer_all.new.answers (after S cap (start S) cs) c.answer_all.ensures.count answered refl);
       safe = run_safe S cap p.3.never cs;
     }

@@ -18,11 +18,11 @@ returns c =
     let cs = made c.args.calls.now E in
     let l = c.load-controller.ensures in
     let eS : system_in me ≡ S = ap (λ (t : Table). hosted (system_of t.bytes.now)) l.table in
-    let answered : c.answer-all.new.answers ≡ filled (answers_to S cap (start S) cs) E = c.answer-all.ensures.answers ∙ ap (λ (a : List Answer). filled a E) (loaded_answers (system_in me) S me.capacity cap (state_in me) eS l.capacity l.state cs) in
-    let stands : state_in c.answer-all.new.self ≡ after S cap (start S) cs = c.answer-all.ensures.state ∙ loaded_after (system_in me) S me.capacity cap (state_in me) eS l.capacity l.state cs in
+    let answered : c.answer_all.new.answers ≡ filled (answers_to S cap (start S) cs) E = c.answer_all.ensures.answers ∙ ap (λ (a : List Answer). filled a E) (loaded_answers (system_in me) S me.capacity cap (state_in me) eS l.capacity l.state cs) in
+    let stands : state_in c.answer_all.new.self ≡ after S cap (start S) cs = c.answer_all.ensures.state ∙ loaded_after (system_in me) S me.capacity cap (state_in me) eS l.capacity l.state cs in
     record {
       answered = answered;
       stands = stands;
-      related = places_run S cap cs (start S) (length cs) E c.answer-all.new.answers (state_in c.answer-all.new.self) refl answered stands;
+      related = places_run S cap cs (start S) (length cs) E c.answer_all.new.answers (state_in c.answer_all.new.self) refl answered stands;
       reached = runs_reach S cap cs;
     }

@@ -15,7 +15,7 @@ returns-then-valid g c =
     let code = g.A.QueueAbstraction.code p in
     let v : Valid c.args.m (keep_bits w) = subst (Valid c.args.m) c.width.ensures (c.if-valid.ensures.0 refl) in
     subst (λ (x : ℕ). Decides (eqb c.args.mask 0) (Allowed (keep_bits w) (keep_code code) c.args.m x c.args.front c.args.mask)) (sym c.if-c-eq0.true)
-    (allow_none w code c.args.m c.args.mask c.args.front v (omega arith) c.in-default.not-Event)
+    (allow_none w code c.args.m c.args.mask c.args.front v (omega arith) c.in_default.not-Event)
 
 pub returns-then-begins : goal.returns-then-begins
 returns-then-begins g c =

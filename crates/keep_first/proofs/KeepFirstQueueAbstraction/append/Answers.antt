@@ -15,25 +15,25 @@ join-requires g c =
     let e : c.empty.result ≡ code c.args.m [] = c.empty.ensures ∙ sym (law.start c.args.m) in
     (omega arith, narrow_below w _ v (subst (λ (x : ℕ). x < 2 ^ w) (sym e) s))
 
-pub returns-in-err-first : goal.returns-in-err-first
-returns-in-err-first g c =
-    let s = subst (λ (w : ℕ). Split w c.args.m c.args.c None) c.width-2.ensures c.in-err-first.ensures in
+pub returns-in_err-first : goal.returns-in_err-first
+returns-in_err-first g c =
+    let s = subst (λ (w : ℕ). Split w c.args.m c.args.c None) c.width-2.ensures c.in_err-first.ensures in
     rw c.from-residual.ensures (λ h l. good_parts _ _ _ _ c.if-c-eq0.false s h)
 
 pub join-requires-2 : goal.join-requires-2
 join-requires-2 g c =
     let p = c.args.self.now.below in
     let w = g.A.QueueAbstraction.bits p in
-    let s = c.in-ok-first.ensures in
+    let s = c.in_ok-first.ensures in
     let v : Valid c.args.m (keep_bits w) = subst (Valid c.args.m) c.width-2.ensures s.0 in
-    (omega (arith, v.few, s.1), narrow_below w _ v (append_small w (g.A.QueueAbstraction.code p) (g.met.A.QueueAbstraction.meaning p) _ _ _ _ c.in-ok-append.ensures))
+    (omega (arith, v.few, s.1), narrow_below w _ v (append_small w (g.A.QueueAbstraction.code p) (g.met.A.QueueAbstraction.meaning p) _ _ _ _ c.in_ok-append.ensures))
 
 pub returns : goal.returns
 returns g c =
     let p = c.args.self.now.below in
     let w = g.A.QueueAbstraction.bits p in
     let code = g.A.QueueAbstraction.code p in
-    let s = c.in-ok-first.ensures in
+    let s = c.in_ok-first.ensures in
     let v : Valid c.args.m (keep_bits w) = subst (Valid c.args.m) c.width-2.ensures s.0 in
     subst (λ (x : ℕ). Appended (keep_bits w) (keep_code code) c.args.m c.args.c c.args.e (Some x)) (sym c.join-2.ensures)
-    (append_up w code c.args.m c.args.c c.args.e _ _ _ v s.1 s.2 c.in-ok-append.ensures)
+    (append_up w code c.args.m c.args.c c.args.e _ _ _ v s.1 s.2 c.in_ok-append.ensures)

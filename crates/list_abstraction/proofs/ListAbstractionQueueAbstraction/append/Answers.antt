@@ -10,8 +10,8 @@ use Rattle.list_abstraction.proofs.ListAbstractionQueueAbstraction.append.Goals 
 
 pub returns-then-listed-bit : goal.returns-then-listed-bit
 returns-then-listed-bit c =
-    let s = c.in-ok-listed.ensures in
-    let b = has_bit c.in-ok-listed.listed.mask c.args.e (ap (bit_or c.in-ok-listed.listed.mask) (sym (c.bit.ensures.event (omega (arith, s.coded.valid.few, c.if-e-m.false)))) ∙ c.if-listed-bit.true) in
+    let s = c.in_ok-listed.ensures in
+    let b = has_bit c.in_ok-listed.listed.mask c.args.e (ap (bit_or c.in_ok-listed.listed.mask) (sym (c.bit.ensures.event (omega (arith, s.coded.valid.few, c.if-e-m.false)))) ∙ c.if-listed-bit.true) in
     append_held _ _ s.list s.coded c.args.e c.if-e-m.false ((s.marks c.args.e).0 b)
 
 new : (m c mask count e one : ℕ) (s : Seen m c (record { mask = mask; count = count })) → one ≡ 2 ^ e → e < m → (bit_or mask one ≡ mask → ⊥) → Waits e s.list → ⊥
@@ -27,25 +27,25 @@ fit m c mask count e one wide here s p l n q r =
 
 pub place-requires : goal.place-requires
 place-requires c =
-    let s = c.in-ok-listed.ensures in
+    let s = c.in_ok-listed.ensures in
     let r = room _ _ s.list s.coded c.args.e c.if-e-m.false (new _ _ _ _ _ _ s (c.bit.ensures.event (omega (arith, s.coded.valid.few, c.if-e-m.false))) c.if-e-m.false c.if-listed-bit.false) in
     omega (arith, r.0, s.count)
 
-pub overflow-mul-result : goal.overflow-mul-result
-overflow-mul-result c =
-    let s = c.in-ok-listed.ensures in
+pub overflow_mul-result : goal.overflow_mul-result
+overflow_mul-result c =
+    let s = c.in_ok-listed.ensures in
     let f = fit _ _ _ _ _ _ _ _ s (c.bit.ensures.event (omega (arith, s.coded.valid.few, c.if-e-m.false))) c.if-e-m.false c.if-listed-bit.false c.from.ensures c.place.ensures in
     record { fits = omega arith }
 
-pub overflow-add-result-2 : goal.overflow-add-result-2
-overflow-add-result-2 c =
-    let s = c.in-ok-listed.ensures in
+pub overflow_add-result-2 : goal.overflow_add-result-2
+overflow_add-result-2 c =
+    let s = c.in_ok-listed.ensures in
     let f = fit _ _ _ _ _ _ _ _ s (c.bit.ensures.event (omega (arith, s.coded.valid.few, c.if-e-m.false))) c.if-e-m.false c.if-listed-bit.false c.from.ensures c.place.ensures in
     record { fits = omega arith }
 
 pub returns : goal.returns
 returns c =
-    let s = c.in-ok-listed.ensures in
+    let s = c.in_ok-listed.ensures in
     let m = c.args.m in
     let e = c.args.e in
     let p : (e + 1) * 2 ^ (4 * length s.list) ≡ (c.from.result + 1) * c.place.result =

@@ -13,4 +13,4 @@ told m c None f = (λ t. absurd (false≢true t), λ g. absurd (f g))
 told m c (Some x) f = (λ t. coded_good m c f.list f.coded, λ g. refl)
 
 pub returns : goal.returns
-returns c = Decides-at _ _ c.is-some.ensures (told c.args.m c.args.c c.read.result c.read.ensures)
+returns c = Decides-at _ _ c.is_some.ensures (told c.args.m c.args.c c.read.result c.read.ensures)

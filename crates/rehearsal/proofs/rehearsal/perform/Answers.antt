@@ -10,7 +10,7 @@ pub loop-at-preserved : goal.loop-at-preserved
 loop-at-preserved c =
     let k = c.loop-at.invariant.1 in
     let m = c.make.ensures.keeps in
-    (loaded_more (system_in c.args.controller.now) (system_in c.loop-at.controller) c.args.controller.now.capacity c.loop-at.controller.capacity (state_in c.loop-at.controller) (state_in c.make.new.controller) c.args.lines.now c.loop-at.at (vec_items c.loop-at.replies) (vec_items c.add.new.replies) _ c.make.result (ap (λ t. hosted (system_of t.bytes.now)) k.table) k.capacity c.loop-at-test.true c.loop-at.invariant.0 c.make.ensures.reply c.make.ensures.state c.in-ok-add.ensures, record { table = m.table ∙ k.table; capacity = m.capacity ∙ k.capacity })
+    (loaded_more (system_in c.args.controller.now) (system_in c.loop-at.controller) c.args.controller.now.capacity c.loop-at.controller.capacity (state_in c.loop-at.controller) (state_in c.make.new.controller) c.args.lines.now c.loop-at.at (vec_items c.loop-at.replies) (vec_items c.add.new.replies) _ c.make.result (ap (λ t. hosted (system_of t.bytes.now)) k.table) k.capacity c.loop-at-test.true c.loop-at.invariant.0 c.make.ensures.reply c.make.ensures.state c.in_ok-add.ensures, record { table = m.table ∙ k.table; capacity = m.capacity ∙ k.capacity })
 
 pub returns : goal.returns
 returns c =

@@ -13,7 +13,7 @@ returns-in-Call c =
 
 pub loop-at-preserved : goal.loop-at-preserved
 loop-at-preserved c =
-    (λ S. held_more S c.loop-at.pass.capacity c.hold.new.pass.capacity c.args.lines.now c.loop-at.at (vec_items c.loop-at.replies) (vec_items c.add.new.replies) _ c.hold.result c.in-default.not-Call c.loop-at-test.true (c.loop-at.invariant.0 S) c.hold.ensures.reply c.hold.ensures.capacity c.in-ok-add.ensures, c.hold.ensures.table ∙ c.loop-at.invariant.1)
+    (λ S. held_more S c.loop-at.pass.capacity c.hold.new.pass.capacity c.args.lines.now c.loop-at.at (vec_items c.loop-at.replies) (vec_items c.add.new.replies) _ c.hold.result c.in_default.not-Call c.loop-at-test.true (c.loop-at.invariant.0 S) c.hold.ensures.reply c.hold.ensures.capacity c.in_ok-add.ensures, c.hold.ensures.table ∙ c.loop-at.invariant.1)
 
 pub returns : goal.returns
 returns c =

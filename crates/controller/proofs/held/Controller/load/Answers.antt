@@ -5,10 +5,10 @@ use Rattle.controller.specs.Hosted.{hosted}
 use Rattle.controller.proofs.Hosting.{hosted_whole}
 use Rattle.controller.proofs.held.Controller.load.Goals as goal
 
-pub invariant-of-result : goal.invariant-of-result
-invariant-of-result c =
-    let m = c.at-start.ensures in
-    (m.count ∙ c.machines-held.ensures.is, (omega (arith, c.bounded.ensures), (omega (arith, m.count, c.machines-held.ensures.few), (m.long, (m.short c.bounded.result, tt)))))
+pub invariant_of-result : goal.invariant_of-result
+invariant_of-result c =
+    let m = c.at_start.ensures in
+    (m.count ∙ c.machines_held.ensures.is, (omega (arith, c.bounded.ensures), (omega (arith, m.count, c.machines_held.ensures.few), (m.long, (m.short c.bounded.result, tt)))))
 
 pub returns : goal.returns
 returns c =
@@ -16,6 +16,6 @@ returns c =
       table = c.table-table.ensures;
       capacity = c.bounded.ensures ∙ ap (λ (n : ℕ). min n 32) c.capacity.ensures;
       granted = λ h. omega (arith, c.bounded.ensures, c.capacity.ensures);
-      state = c.at-start.ensures.state ∙ ap (λ (n : ℕ). replicate n (0, [])) c.machines-held.ensures.is;
+      state = c.at_start.ensures.state ∙ ap (λ (n : ℕ). replicate n (0, [])) c.machines_held.ensures.is;
       whole = λ reads. ap (λ (t : Table). hosted (system_of t.bytes.now)) c.table-table.ensures ∙ hosted_whole c.args.pass.table.bytes.now reads;
     }

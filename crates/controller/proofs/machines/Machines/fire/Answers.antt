@@ -14,7 +14,7 @@ pub deliver-requires : goal.deliver-requires
 deliver-requires c =
     let cap = c.args.capacity in
     let t = state_of c.follow.new.self in
-    let room = room_left cap (state_of c.args.self.now) t c.args.rule (sym c.in-default.ensures) c.follow.ensures.state in
+    let room = room_left cap (state_of c.args.self.now) t c.args.rule (sym c.in_default.ensures) c.follow.ensures.state in
     record {
       fit = fit_more c.follow.new.self cap 32 c.requires.small (c.follow.ensures.fit cap c.requires.fit);
       room = more_room cap 32 c.requires.small c.args.rule.action t room;
@@ -26,7 +26,7 @@ returns c =
     let s = state_of c.args.self.now in
     let t = state_of c.follow.new.self in
     let x = c.args.rule in
-    let free = sym c.in-default.ensures in
+    let free = sym c.in_default.ensures in
     let go = c.follow.ensures.state in
     record {
       answer = accepted cap s t x free go;

@@ -5,31 +5,31 @@ use Rattle.model.proofs.Findings.{answered_first, answered_after}
 use Rattle.table.specs.Findings.{Applies, numbers, header_order, machine_order, rule_order, pattern_order}
 use Rattle.table.proofs.view.Table.check.Goals as goal
 
-pub returns-in-err-check-machine-lines : goal.returns-in-err-check-machine-lines
-returns-in-err-check-machine-lines c =
+pub returns-in_err-check_machine_lines : goal.returns-in_err-check_machine_lines
+returns-in_err-check_machine_lines c =
     let bs = c.args.self.now.bytes.now in
     let A = Applies bs in
     let n = numbers bs in
-    let e = err_from_is_err_and c.from-residual-in-err-check-machine-lines.result c.from-residual-in-err-check-machine-lines.ensures.1 in
-    rw (e.1, e.2) (answered_after A n header_order (machine_order bs then rule_order bs then pattern_order bs) (Err _) c.in-ok-check-header.ensures
-    (answered_first A n (machine_order bs) (rule_order bs then pattern_order bs) _ c.in-err-check-machine-lines.ensures))
+    let e = err_from_is_err_and c.from-residual-in_err-check_machine_lines.result c.from-residual-in_err-check_machine_lines.ensures.1 in
+    rw (e.1, e.2) (answered_after A n header_order (machine_order bs then rule_order bs then pattern_order bs) (Err _) c.in_ok-check_header.ensures
+    (answered_first A n (machine_order bs) (rule_order bs then pattern_order bs) _ c.in_err-check_machine_lines.ensures))
 
-pub returns-in-err-check-rule-lines : goal.returns-in-err-check-rule-lines
-returns-in-err-check-rule-lines c =
+pub returns-in_err-check_rule_lines : goal.returns-in_err-check_rule_lines
+returns-in_err-check_rule_lines c =
     let bs = c.args.self.now.bytes.now in
     let A = Applies bs in
     let n = numbers bs in
-    let e = err_from_is_err_and c.from-residual-in-err-check-rule-lines.result c.from-residual-in-err-check-rule-lines.ensures.1 in
-    rw (e.1, e.2) (answered_after A n header_order (machine_order bs then rule_order bs then pattern_order bs) (Err _) c.in-ok-check-header.ensures
-    (answered_after A n (machine_order bs) (rule_order bs then pattern_order bs) (Err _) c.in-ok-check-machine-lines.ensures
-    (answered_first A n (rule_order bs) (pattern_order bs) _ c.in-err-check-rule-lines.ensures)))
+    let e = err_from_is_err_and c.from-residual-in_err-check_rule_lines.result c.from-residual-in_err-check_rule_lines.ensures.1 in
+    rw (e.1, e.2) (answered_after A n header_order (machine_order bs then rule_order bs then pattern_order bs) (Err _) c.in_ok-check_header.ensures
+    (answered_after A n (machine_order bs) (rule_order bs then pattern_order bs) (Err _) c.in_ok-check_machine_lines.ensures
+    (answered_first A n (rule_order bs) (pattern_order bs) _ c.in_err-check_rule_lines.ensures)))
 
 pub returns : goal.returns
 returns c =
     let bs = c.args.self.now.bytes.now in
     let A = Applies bs in
     let n = numbers bs in
-    let r = c.check-pattern-lines.result in
-    answered_after A n header_order (machine_order bs then rule_order bs then pattern_order bs) r c.in-ok-check-header.ensures
-    (answered_after A n (machine_order bs) (rule_order bs then pattern_order bs) r c.in-ok-check-machine-lines.ensures
-    (answered_after A n (rule_order bs) (pattern_order bs) r c.in-ok-check-rule-lines.ensures c.check-pattern-lines.ensures))
+    let r = c.check_pattern_lines.result in
+    answered_after A n header_order (machine_order bs then rule_order bs then pattern_order bs) r c.in_ok-check_header.ensures
+    (answered_after A n (machine_order bs) (rule_order bs then pattern_order bs) r c.in_ok-check_machine_lines.ensures
+    (answered_after A n (rule_order bs) (pattern_order bs) r c.in_ok-check_rule_lines.ensures c.check_pattern_lines.ensures))

@@ -9,7 +9,7 @@ use Rattle.table.proofs.view.Table.check_header_fields.Goals as goal
 pub returns : goal.returns
 returns c =
     let bs = c.args.self.now.bytes.now in
-    let r = c.check-fields.result in
-    let read = subst (λ (b : List ℕ). Answered (OutOfBounds b c.header-bounds.result) (λ i. fault_at TableHeader (2 * i)) fields r) c.bytes.ensures c.check-fields.ensures in
+    let r = c.check_fields.result in
+    let read = subst (λ (b : List ℕ). Answered (OutOfBounds b c.header_bounds.result) (λ i. fault_at TableHeader (2 * i)) fields r) c.bytes.ensures c.check_fields.ensures in
     answered_under (Applies bs) (numbers bs) field fields r
-    (subst (λ (b : List (ℕ × ℕ)). Answered (OutOfBounds bs b) (λ i. fault_at TableHeader (2 * i)) fields r) c.header-bounds.ensures read)
+    (subst (λ (b : List (ℕ × ℕ)). Answered (OutOfBounds bs b) (λ i. fault_at TableHeader (2 * i)) fields r) c.header_bounds.ensures read)

@@ -16,8 +16,8 @@ returns-then-lines-eq0 c =
 pub returns : goal.returns
 returns c =
     let bs = c.args.self.now.bytes.now in
-    let n : c.pattern-line-count-lines.result ≡ pattern_lines_n bs = omega (arith, lines_long bs) in
+    let n : c.pattern_line_count-lines.result ≡ pattern_lines_n bs = omega (arith, lines_long bs) in
     let ne : pattern_lines_n bs ≡ 0 → ⊥ = (λ z. omega arith) in
-    let last : c.pattern-offset.result ≡ pattern_offset bs (pattern_lines_n bs - 1) = c.pattern-offset.ensures ∙ ap (λ (k : ℕ). pattern_offset bs (k - 1)) n in
+    let last : c.pattern_offset.result ≡ pattern_offset bs (pattern_lines_n bs - 1) = c.pattern_offset.ensures ∙ ap (λ (k : ℕ). pattern_offset bs (k - 1)) n in
     let count : pattern_count bs ≡ byte_at bs (pattern_offset bs (pattern_lines_n bs - 1)) + 1 = simp (ne_eqb (pattern_lines_n bs) 0 ne) in
     omega (arith, c.byte.ensures ∙ ap (byte_at bs) last, patterns_long bs)
