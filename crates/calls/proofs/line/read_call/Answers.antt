@@ -9,4 +9,4 @@ returns-then-eq c = (slice_eq-Decides Decides-eqb _ _ _ c.eq.ensures).0 c.if-eq.
 
 pub returns-in_err-machine : goal.returns-in_err-machine
 returns-in_err-machine c =
-    rw c.from-residual.ensures (asks_nothing c.args.line.now (λ e. both_ways c.eq.result c.if-eq.false ((slice_eq-Decides Decides-eqb _ _ _ c.eq.ensures).1 e)) c.in_default.ensures c.in_err-machine.ensures)
+    rw c.from_residual.ensures (asks_nothing c.args.line.now (λ e. both_ways c.eq.result c.if-eq.false ((slice_eq-Decides Decides-eqb _ _ _ c.eq.ensures).1 e)) c.in_default.ensures c.in_err-machine.ensures)

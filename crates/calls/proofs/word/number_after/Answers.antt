@@ -8,4 +8,4 @@ returns c =
 
 pub returns-in_err-digits : goal.returns-in_err-digits
 returns-in_err-digits c =
-    rw c.from-residual.ensures (λ x a. c.in_err-digits.ensures a.rest a.split)
+    rw c.from_residual.ensures (λ x a. c.in_err-digits.ensures a.rest a.split)

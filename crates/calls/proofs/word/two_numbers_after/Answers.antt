@@ -8,4 +8,4 @@ returns c =
 
 pub returns-in_err-numbers : goal.returns-in_err-numbers
 returns-in_err-numbers c =
-    rw c.from-residual.ensures (λ x a. c.in_err-numbers.ensures a.rest a.split)
+    rw c.from_residual.ensures (λ x a. c.in_err-numbers.ensures a.rest a.split)

@@ -17,7 +17,7 @@ returns-in_err-view g c =
     let bs = c.args.table.now in
     let s = c.args.set.now in
     let T = claim_of bs s (q.bits p) (q.code p) (q.removals p) in
-    let e = err_from_is_err_and c.from-residual.result c.from-residual.ensures.1 in
+    let e = err_from_is_err_and c.from_residual.result c.from_residual.ensures.1 in
     let f = c.in_err-view.field-0.0 in
     let b = answered_first (Applies bs s T) (numbers bs) (table_order bs) (set_order s T) f (answered_under (Applies bs s T) (numbers bs) in_table (reading.order bs) (Err f) c.in_err-view.ensures.verdict) in
     rw (e.1, e.2) (fails bs s T f b, b)
@@ -36,7 +36,7 @@ returns-in_err-check_set g c =
     let T = claim_of bs s (q.bits p) (q.code p) (q.removals p) in
     let v = c.in_ok-view.ensures.verdict in
     let f = c.in_err-check_set.field-0.0 in
-    let e = err_from_is_err_and c.from-residual-in_err-check_set.result c.from-residual-in_err-check_set.ensures.1 in
+    let e = err_from_is_err_and c.from_residual-in_err-check_set.result c.from_residual-in_err-check_set.ensures.1 in
     let at : List ℕ → List ℕ → Type 0 = λ b o. FirstFault (Applies b o (claim_of b o (q.bits p) (q.code p) (q.removals p))) (numbers b) (set_order o (claim_of b o (q.bits p) (q.code p) (q.removals p))) f in
     let first : at bs s = subst (λ (o : List ℕ). at bs o) c.over.ensures (subst (λ (b : List ℕ). at b c.over.result.bytes.now) v.0 c.in_err-check_set.ensures.first) in
     let b = answered_after (Applies bs s T) (numbers bs) (table_order bs) (set_order s T) (Err f) (reads_nothing bs s T v.1) first in

@@ -12,7 +12,7 @@ returns-in_err-check_form g c =
     let bs = c.args.table.now.bytes.now in
     let s = c.args.set.now.bytes.now in
     let T = claim_of bs s (q.bits p) (q.code p) (q.removals p) in
-    let e = err_from_is_err_and c.from-residual.result c.from-residual.ensures.1 in
+    let e = err_from_is_err_and c.from_residual.result c.from_residual.ensures.1 in
     rw (e.1, e.2) (record { first = answered_first (Applies bs s T) (numbers bs) (form_order s) (closed_order T) _ c.in_err-check_form.ensures.form; closed = tt })
 
 pub check_closed-requires : goal.check_closed-requires

@@ -14,7 +14,7 @@ returns-in_err-check_header g c =
     let bs = c.args.table.now.bytes.now in
     let s = c.args.set.now.bytes.now in
     let T = claim_of bs s (q.bits p) (q.code p) (q.removals p) in
-    let e = err_from_is_err_and c.from-residual.result c.from-residual.ensures.1 in
+    let e = err_from_is_err_and c.from_residual.result c.from_residual.ensures.1 in
     let b = answered_under (Applies bs s T) (numbers bs) in_header header_order (Err c.in_err-check_header.field-0.0) c.in_err-check_header.ensures in
     rw (e.1, e.2) (record { form = answered_first (Applies bs s T) (numbers bs) (under in_header header_order) (each (records_n s) form_of) c.in_err-check_header.field-0.0 b; ready = tt })
 

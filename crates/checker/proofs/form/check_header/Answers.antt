@@ -12,7 +12,7 @@ pub returns-in_err-check_header_fields : goal.returns-in_err-check_header_fields
 returns-in_err-check_header_fields c =
     let A = HeaderApplies c.args.table.now.bytes.now c.args.set.now.bytes.now in
     let long : length c.args.set.now.bytes.now < 16 → ⊥ = (λ l. omega (arith, ap length c.bytes-bytes.ensures)) in
-    let e = err_from_is_err_and c.from-residual.result c.from-residual.ensures.1 in
+    let e = err_from_is_err_and c.from_residual.result c.from_residual.ensures.1 in
     rw (e.1, e.2) (answered_after A header_numbers (one short) (under field fields then one wrong_length) (Err _) long
     (answered_first A header_numbers (under field fields) (one wrong_length) _ c.in_err-check_header_fields.ensures))
 

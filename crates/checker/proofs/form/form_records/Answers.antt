@@ -7,7 +7,7 @@ use Rattle.checker.proofs.form.form_records.Goals as goal
 
 pub returns-in_err-form_record : goal.returns-in_err-form_record
 returns-in_err-form_record g c =
-    let p = err_from_is_err_and c.from-residual.result c.from-residual.ensures.1 in
+    let p = err_from_is_err_and c.from_residual.result c.from_residual.ensures.1 in
     let q = c.in_err-form_record.ensures in
     rw (p.1, p.2) (record { finding = q.finding; numbered = q.numbered; first = (c.loop-k.k, omega (arith, c.record_count-k-end.ensures), q.first, (λ j l. ((λ no. no (c.loop-k.invariant j l).0), (λ no. no.1 ((c.loop-k.invariant j l).1 no.0))))) })
 

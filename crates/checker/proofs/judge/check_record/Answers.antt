@@ -11,7 +11,7 @@ returns-in_err-check_surprises g c =
     let q = g.A.QueueAbstraction in
     let p = c.args.abstraction.now in
     let T = claim_of c.args.table.now.bytes.now c.args.set.now.bytes.now (q.bits p) (q.code p) (q.removals p) in
-    let e = err_from_is_err_and c.from-residual.result c.from-residual.ensures.1 in
+    let e = err_from_is_err_and c.from_residual.result c.from_residual.ensures.1 in
     rw (e.1, e.2) (answered_first (Applies T) numbers (surprises T c.args.k) (patterns T c.args.k then steps T c.args.k) _ c.in_err-check_surprises.ensures)
 
 pub returns-in_err-check_patterns : goal.returns-in_err-check_patterns
@@ -19,7 +19,7 @@ returns-in_err-check_patterns g c =
     let q = g.A.QueueAbstraction in
     let p = c.args.abstraction.now in
     let T = claim_of c.args.table.now.bytes.now c.args.set.now.bytes.now (q.bits p) (q.code p) (q.removals p) in
-    let e = err_from_is_err_and c.from-residual-in_err-check_patterns.result c.from-residual-in_err-check_patterns.ensures.1 in
+    let e = err_from_is_err_and c.from_residual-in_err-check_patterns.result c.from_residual-in_err-check_patterns.ensures.1 in
     rw (e.1, e.2) (answered_after (Applies T) numbers (surprises T c.args.k) (patterns T c.args.k then steps T c.args.k) (Err c.in_err-check_patterns.field-0.0) c.in_ok-check_surprises.ensures (answered_first (Applies T) numbers (patterns T c.args.k) (steps T c.args.k) _ c.in_err-check_patterns.ensures))
 
 pub returns : goal.returns

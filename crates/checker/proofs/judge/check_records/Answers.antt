@@ -36,7 +36,7 @@ check_record-requires g c =
 
 pub returns-in_err-check_record : goal.returns-in_err-check_record
 returns-in_err-check_record g c =
-    let p = err_from_is_err_and c.from-residual.result c.from-residual.ensures.1 in
+    let p = err_from_is_err_and c.from_residual.result c.from_residual.ensures.1 in
     let q = c.in_err-check_record.ensures in
     rw (p.1, p.2) (record { finding = q.finding; numbered = q.numbered; first = (c.loop-k.k, omega (arith, records_long (machines_n c.args.table.now.bytes.now) c.args.set.now.bytes.now, c.record_count-k-end.ensures), q.first, c.loop-k.invariant.0) })
 

@@ -8,7 +8,7 @@ check_rule-requires g c = record { ready = c.requires.ready; rising = c.requires
 
 pub returns-in_err-check_rule : goal.returns-in_err-check_rule
 returns-in_err-check_rule g c =
-    let p = err_from_is_err_and c.from-residual.result c.from-residual.ensures.1 in
+    let p = err_from_is_err_and c.from_residual.result c.from_residual.ensures.1 in
     let q = c.in_err-check_rule.ensures in
     rw (p.1, p.2) (record { finding = q.finding; numbered = q.numbered; first = (c.loop-r.r, omega arith, q.first, c.loop-r.invariant) })
 

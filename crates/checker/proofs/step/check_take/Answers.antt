@@ -20,7 +20,7 @@ returns-in_err-take_inside g c =
     let own : c.entry_at-own.result.code ≡ code_in (record_of T c.args.k) c.args.taker.machine = ap (λ (z : ℕ × ℕ). z.1) (entry_is T law _ c.args.k c.args.held.now c.requires.judging c.args.taker.machine _ _ c.entry_at-own.ensures) in
     let at : slice_get xs c.loop-taken.c ≡ Some (c.in-Some.taken, c.in-Some.left) = ap (λ (z : ℕ). slice_get (q.removals p (events_n c.args.table.now.bytes.now) z) c.loop-taken.c) (sym own) ∙ ap (λ (z : ℕ). slice_get (q.removals p z c.entry_at-own.result.code) c.loop-taken.c) (sym c.events-m.ensures) ∙ sym c.in-Some.ensures in
     let lt = nth_within xs c.loop-taken.c _ at in
-    let e = err_from_is_err_and c.from-residual.result c.from-residual.ensures.1 in
+    let e = err_from_is_err_and c.from_residual.result c.from_residual.ensures.1 in
     let b = c.in_err-take_inside.ensures in
     rw (e.1, e.2) (record { finding = b.finding; numbered = b.numbered; first = (c.loop-taken.c, lt, b.first, c.loop-taken.invariant.1) })
 

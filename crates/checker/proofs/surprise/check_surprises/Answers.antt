@@ -9,7 +9,7 @@ use Rattle.checker.proofs.surprise.check_surprises.Goals as goal
 
 pub returns-in_err-machine_surprises : goal.returns-in_err-machine_surprises
 returns-in_err-machine_surprises g c =
-    let p = err_from_is_err_and c.from-residual.result c.from-residual.ensures.1 in
+    let p = err_from_is_err_and c.from_residual.result c.from_residual.ensures.1 in
     let q = c.in_err-machine_surprises.ensures in
     rw (p.1, p.2) (record { finding = q.finding; numbered = q.numbered; first = (c.loop-i.i, omega (arith, machines_long c.args.table.now.bytes.now, c.requires.judging.machines), q.first, c.loop-i.invariant) })
 

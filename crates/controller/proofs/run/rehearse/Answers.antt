@@ -12,12 +12,12 @@ use Rattle.controller.proofs.run.rehearse.Goals as goal
 
 pub returns-in_err-pass : goal.returns-in_err-pass
 returns-in_err-pass g c =
-    let e = err_from_is_err_and c.from-residual.result c.from-residual.ensures.1 in
+    let e = err_from_is_err_and c.from_residual.result c.from_residual.ensures.1 in
     rw (e.1, e.2) (refl, inl c.in_err-pass.ensures.checked)
 
 pub returns-in_err-set_capacity : goal.returns-in_err-set_capacity
 returns-in_err-set_capacity g c =
-    let e = err_from_is_err_and c.from-residual-in_err-set_capacity.result c.from-residual-in_err-set_capacity.ensures.1 in
+    let e = err_from_is_err_and c.from_residual-in_err-set_capacity.result c.from_residual-in_err-set_capacity.ensures.1 in
     let h = c.in_err-set_capacity.ensures.set in
     rw (e.1, e.2) (refl, inr (c.in_ok-pass.ensures.exactly, h.0, h.1))
 

@@ -18,7 +18,7 @@ join-requires g c =
 pub returns-in_err-first : goal.returns-in_err-first
 returns-in_err-first g c =
     let s = subst (λ (w : ℕ). Split w c.args.m c.args.c None) c.width-2.ensures c.in_err-first.ensures in
-    rw c.from-residual.ensures (λ h l. good_parts _ _ _ _ c.if-c-eq0.false s h)
+    rw c.from_residual.ensures (λ h l. good_parts _ _ _ _ c.if-c-eq0.false s h)
 
 pub join-requires-2 : goal.join-requires-2
 join-requires-2 g c =

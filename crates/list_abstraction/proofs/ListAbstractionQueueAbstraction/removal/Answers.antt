@@ -37,7 +37,7 @@ parts m c mask count s z =
     }
 
 pub returns-in_err-listed : goal.returns-in_err-listed
-returns-in_err-listed c = c.from-residual.ensures ∙ no_removal list_meaning c.args.m c.args.c c.args.k c.in_err-listed.ensures
+returns-in_err-listed c = c.from_residual.ensures ∙ no_removal list_meaning c.args.m c.args.c c.args.k c.in_err-listed.ensures
 
 pub overflow_sub-e : goal.overflow_sub-e
 overflow_sub-e c = (parts _ _ _ _ c.in_ok-listed.ensures c.if-c-eq0.false).some

@@ -11,7 +11,7 @@ use Rattle.table.proofs.view.Table.check_header.Goals as goal
 pub returns-in_err-check_header_fields : goal.returns-in_err-check_header_fields
 returns-in_err-check_header_fields c =
     let bs = c.args.self.now.bytes.now in
-    let e = err_from_is_err_and c.from-residual.result c.from-residual.ensures.1 in
+    let e = err_from_is_err_and c.from_residual.result c.from_residual.ensures.1 in
     let long : length bs < 16 → ⊥ = (λ l. omega (arith, ap length c.bytes-bytes.ensures)) in
     rw (e.1, e.2) (answered_after (Applies bs) (numbers bs) (one short) (under field fields then one wrong_length) (Err _) long
     (answered_first (Applies bs) (numbers bs) (under field fields) (one wrong_length) _ c.in_err-check_header_fields.ensures))

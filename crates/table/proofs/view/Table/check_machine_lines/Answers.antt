@@ -10,7 +10,7 @@ use Rattle.table.proofs.view.Table.check_machine_lines.Goals as goal
 pub returns-in_err-check_machine_line : goal.returns-in_err-check_machine_line
 returns-in_err-check_machine_line c =
     let bs = c.args.self.now.bytes.now in
-    let e = err_from_is_err_and c.from-residual.result c.from-residual.ensures.1 in
+    let e = err_from_is_err_and c.from_residual.result c.from_residual.ensures.1 in
     rw (e.1, e.2) (answered_at (Applies bs) (numbers bs) (machines_n bs) (λ i. one (machine_line i)) c.loop-machine.machine _ (omega (arith, machines_long bs)) c.in_err-check_machine_line.ensures c.loop-machine.invariant)
 
 pub loop-machine-preserved : goal.loop-machine-preserved

@@ -10,7 +10,7 @@ use Rattle.table.proofs.view.Table.check_pattern_lines.Goals as goal
 pub returns-in_err-check_pattern_line : goal.returns-in_err-check_pattern_line
 returns-in_err-check_pattern_line c =
     let bs = c.args.self.now.bytes.now in
-    let e = err_from_is_err_and c.from-residual.result c.from-residual.ensures.1 in
+    let e = err_from_is_err_and c.from_residual.result c.from_residual.ensures.1 in
     rw (e.1, e.2) (answered_at (Applies bs) (numbers bs) (pattern_lines_n bs) (λ i. one (pattern_line i)) c.loop-line.line _ (omega (arith, lines_long bs)) c.in_err-check_pattern_line.ensures c.loop-line.invariant)
 
 pub loop-line-preserved : goal.loop-line-preserved

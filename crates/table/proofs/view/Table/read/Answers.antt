@@ -12,7 +12,7 @@ returns-in_err-check c =
     let bs = c.args.bytes.now in
     let A = Applies bs in
     let n = numbers bs in
-    let e = err_from_is_err_and c.from-residual.result c.from-residual.ensures.1 in
+    let e = err_from_is_err_and c.from_residual.result c.from_residual.ensures.1 in
     let h : Refuses bs c.in_err-check.field-0.0 = subst (λ (b : List ℕ). Refuses b c.in_err-check.field-0.0) c.over-table.ensures c.in_err-check.ensures in
     rw (e.1, e.2) (record {
       verdict = h;
