@@ -18,7 +18,7 @@ fit mask cast m r p d = subst (λ (x : ℕ). Decides r (x < 2 ^ m)) p d
 pub returns-in-Any : goal.returns-in-Any
 returns-in-Any c =
     subst (Answer c.args.m c.args.c c.args.mask _) (sym c.in-Any.is)
-    (any_answer _ _ _ (search rules) (search rules) (search rules) _ (fit _ _ _ _ c.from.ensures c.fits-in-Any.ensures))
+    (any_answer _ _ _ (search rules) (search rules) (search rules) _ (fit _ _ _ _ c.from.ensures c.fits.ensures))
 
 pub returns-in-Empty : goal.returns-in-Empty
 returns-in-Empty c =

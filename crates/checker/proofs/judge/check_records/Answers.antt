@@ -15,7 +15,7 @@ record-held-requires g c =
     let n = machines_n c.args.table.now.bytes.now in
     let lt : c.loop-k.k < word_at bs 10 = omega (arith, c.record_count-k-end.ensures) in
     let in-set : 16 + 9 * n * c.loop-k.k + 9 * n ≤ length bs = omega (arith, room (9 * n) c.loop-k.k (word_at bs 10) lt, c.requires.rising.long) in
-    record { few = omega (arith, c.machines_n.ensures, c.requires.ready.few); long = subst (λ (z : ℕ). 16 + 9 * z * c.loop-k.k + 9 * z ≤ length bs) (sym c.machines_n.ensures) in-set }
+    record { few = omega (arith, c.machines-n.ensures, c.requires.ready.few); long = subst (λ (z : ℕ). 16 + 9 * z * c.loop-k.k + 9 * z ≤ length bs) (sym c.machines-n.ensures) in-set }
 
 pub check_record-requires : goal.check_record-requires
 check_record-requires g c =
@@ -27,9 +27,9 @@ check_record-requires g c =
       rising = c.requires.rising;
       planned = c.plan_of-plan.ensures;
       judging = record {
-        is = c.record-held.ensures.is ∙ ap (λ (z : ℕ). record_at z bs c.loop-k.k) c.machines_n.ensures ∙ sym (record_at_lem n bs c.loop-k.k lt);
+        is = c.record-held.ensures.is ∙ ap (λ (z : ℕ). record_at z bs c.loop-k.k) c.machines-n.ensures ∙ sym (record_at_lem n bs c.loop-k.k lt);
         sound = c.requires.sound c.loop-k.k lt;
-        machines = c.record-held.ensures.machines ∙ c.machines_n.ensures;
+        machines = c.record-held.ensures.machines ∙ c.machines-n.ensures;
       };
       calm = c.loop-k.invariant.1;
     }
@@ -50,9 +50,9 @@ loop-k-preserved g c =
     let T = claim_of c.args.table.now.bytes.now bs (q.bits p) (q.code p) (q.removals p) in
     let lt : k < word_at bs 10 = omega (arith, c.record_count-k-end.ensures) in
     let judging : Judging T n k c.record-held.result = record {
-      is = c.record-held.ensures.is ∙ ap (λ (z : ℕ). record_at z bs k) c.machines_n.ensures ∙ sym (record_at_lem n bs k lt);
+      is = c.record-held.ensures.is ∙ ap (λ (z : ℕ). record_at z bs k) c.machines-n.ensures ∙ sym (record_at_lem n bs k lt);
       sound = c.requires.sound k lt;
-      machines = c.record-held.ensures.machines ∙ c.machines_n.ensures;
+      machines = c.record-held.ensures.machines ∙ c.machines-n.ensures;
     } in
     let nothing = c.in_ok-check_record.ensures in
     (below_more _ k c.loop-k.invariant.0 nothing, λ _. calm_from T (g.met.A.QueueAbstraction.meaning p) n k c.record-held.result judging judging.machines nothing.0)

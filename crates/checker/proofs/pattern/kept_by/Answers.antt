@@ -60,8 +60,8 @@ returns g c =
     (all_kept (MayHold T (record_of T c.args.k)) (λ l. condition_at bs (pattern_offset bs l)) (λ l. eqb (number_of bs l) c.args.n) 0 (pattern_lines_n bs)
     (λ j l u e. c.loop-l.invariant j (omega (arith, lines_long bs, c.pattern_line_count-count.ensures)) (eqb-true _ _ e))))
 
-pub keeps-requires-then-first-count : goal.keeps-requires-then-first-count
-keeps-requires-then-first-count g c = record { ready = c.requires.ready; planned = c.requires.planned; judging = c.requires.judging; below = omega (arith, lines_long c.args.table.now.bytes.now, c.pattern_line_count-count.ensures) }
+pub keeps-requires : goal.keeps-requires
+keeps-requires g c = record { ready = c.requires.ready; planned = c.requires.planned; judging = c.requires.judging; below = omega (arith, lines_long c.args.table.now.bytes.now, c.pattern_line_count-count.ensures) }
 
 pub keeps-requires-in-loop-l : goal.keeps-requires-in-loop-l
 keeps-requires-in-loop-l g c = record { ready = c.requires.ready; planned = c.requires.planned; judging = c.requires.judging; below = omega (arith, lines_long c.args.table.now.bytes.now, c.pattern_line_count-count.ensures) }
