@@ -29,7 +29,7 @@ fn is_skipped(line: &[u8]) -> bool
 fn read_call(line: &[u8]) -> Option<Call>
     ensures { Finds (Asks line.now) result }
 {
-    if line == b"reset" {
+    if line == b"reset".as_slice() {
         return Some(Call::Reset);
     }
     if let Some(rule) = number_after(line, b"fire ") {

@@ -3,7 +3,7 @@ use Rattle.std.specs.Prelude.{◌≡◌, ℕ, ◌+◌, ◌*◌, ◌<◌, List, [
 use Rattle.model.specs.declared.fault.Fault.{Fault}
 use Rattle.model.specs.declared.rule.Action.{Action}
 use Rattle.model.specs.declared.rule.Rule.{Rule}
-use Rattle.model.specs.System.{rule_of, machines as machinesOf}
+use Rattle.model.specs.System.{rule_of, machines as machines_of}
 use Rattle.closed_sets.specs.Records.{Claim, Record, record_of, local_in, Sound}
 use Rattle.closed_sets.specs.Codes.{MaySurprise, MayHold}
 use Rattle.table.specs.Layout.{pattern_offset}
@@ -23,7 +23,7 @@ pub record Judging (T : Claim) (n k : ℕ) (h : Held) : Type 0 where
 -- what is held lets no machine be surprised
 pub record Calm (T : Claim) (n : ℕ) (h : Held) : Type 0 where
   pub machines : h.machines ≡ n
-  pub calm : (i e : ℕ) → i < machinesOf T.system → e < T.system.events → MaySurprise T (record_in h) i e → ⊥
+  pub calm : (i e : ℕ) → i < machines_of T.system → e < T.system.events → MaySurprise T (record_in h) i e → ⊥
 
 abbrev pub ListedIn : List Record → Record → Type 0
 ListedIn rs r = (k : ℕ) × (k < length rs) × (slice_index_or rs k [] ≡ r)

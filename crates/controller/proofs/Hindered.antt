@@ -76,9 +76,9 @@ module _ (S : System) (cap : ℕ) (s : State) (r : ℕ) where
           let no_take : (k : ℕ) → x.action ≡ Take k → ⊥ = λ k t. take_send x.action k e d t is in
           elim (cases_lt (length (queue_at s d)) cap) [
             | inl lt ↦ subst (λ (b : Bool). Says (cond b None (Some QueueFull))) (sym (lt-ltb (length (queue_at s d)) cap lt))
-                (there, (here, ((λ (k, t, y). no_take k t), ((λ (k, g, R, t, y, ne). no-take k t), (λ (k, b, t, y). let same : d ≡ b = same_target x.action e d k b is t in omega (arith, y, ap (λ (i : ℕ). length (queue_at s i)) same))))))
+                (there, (here, ((λ (k, t, y). no_take k t), ((λ (k, g, R, t, y, ne). no_take k t), (λ (k, b, t, y). let same : d ≡ b = same_target x.action e d k b is t in omega (arith, y, ap (λ (i : ℕ). length (queue_at s i)) same))))))
             | inr ge ↦ subst (λ (b : Bool). Says (cond b None (Some QueueFull))) (sym (le-ltb (length (queue_at s d)) cap ge))
-                (record { finding = queue_full; numbered = refl; first = inr (there, inr (here, inr ((λ (k, t, y). no_take k t), inr ((λ (k, g, R, t, y, ne). no-take k t), (refl, (e, d, is, ge)))))) })
+                (record { finding = queue_full; numbered = refl; first = inr (there, inr (here, inr ((λ (k, t, y). no_take k t), inr ((λ (k, g, R, t, y, ne). no_take k t), (refl, (e, d, is, ge)))))) })
           ]
 
       by_action : (a : Action) → x.action ≡ a → Says (acting cap s x.machine a)

@@ -28,7 +28,7 @@ fn check_kept<'a, A: QueueAbstraction + Copy>(
     set: &[u8],
     below: A,
 ) -> Result<Pass<'a>, Fault>
-    ensures { Checked table.now set.now (claim_under table.now set.now (under (word_at set.now 4) (record { width = bits below; code = code below; removals = removals below }))) result }
+    ensures { Checked table.now set.now (claim_under table.now set.now (under (word_at set.now 4) (record { width = A.bits below; code = A.code below; removals = A.removals below }))) result }
 {
     match word(set, KEPT) {
         0 => check(table, set, &below),

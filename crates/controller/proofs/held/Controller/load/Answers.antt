@@ -8,7 +8,7 @@ use Rattle.controller.proofs.held.Controller.load.Goals as goal
 pub invariant_of-result : goal.invariant_of-result
 invariant_of-result c =
     let m = c.at_start.ensures in
-    (m.count ∙ c.machines_held.ensures.is, (omega (arith, c.bounded.ensures), (omega (arith, m.count, c.machines_held.ensures.few), (m.long, (m.short c.bounded.result, tt)))))
+    record { held = m.count ∙ c.machines_held.ensures.is; small = omega (arith, c.bounded.ensures); few = omega (arith, m.count, c.machines_held.ensures.few); long = m.long; short = m.short c.bounded.result }
 
 pub returns : goal.returns
 returns c =

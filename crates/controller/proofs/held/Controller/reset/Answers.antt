@@ -5,4 +5,4 @@ pub invariant_of-self : goal.invariant_of-self
 invariant_of-self c =
     let me = c.args.self.now in
     let m = c.restart.ensures in
-    (m.count ∙ me.held, (me.small, (omega (arith, m.count, me.few), (m.long, (m.short me.capacity, tt)))))
+    record { held = m.count ∙ me.held; small = me.small; few = omega (arith, m.count, me.few); long = m.long; short = m.short me.capacity }
