@@ -8,7 +8,7 @@ of_pass : (table bytes : List ℕ) (cap : ℕ) (text : List ℕ) (rs : List Repl
 of_pass table bytes cap text rs e c h =
     subst (λ (l : List ℕ). Rehearsed l 32 text rs) e (subst (λ (n : ℕ). Rehearsed bytes n text rs) c h)
 
-pub returns-in_ok-reply_to_text : goal.returns-in_ok-reply_to_text
-returns-in_ok-reply_to_text c =
+pub returns-in_ok-reply_to_text-in-Ok : goal.returns-in_ok-reply_to_text-in-Ok
+returns-in_ok-reply_to_text-in-Ok c =
     let h = c.in-Ok.ensures in
-    (h.2, h.3, of_pass c.args.table.now c.in-Ok.pass.table.bytes.now c.in-Ok.pass.capacity c.args.text.now (vec_items c.in_ok-reply_to_text.field-0) h.0 h.1 c.in_ok-reply_to_text.ensures)
+    (h.2, h.3, of_pass c.args.table.now c.in-Ok.pass.table.bytes.now c.in-Ok.pass.capacity c.args.text.now (vec_items c.in_ok-reply_to_text-in-Ok.field-0) h.0 h.1 c.in_ok-reply_to_text-in-Ok.ensures)

@@ -11,7 +11,7 @@ use Rattle.rehearsal.proofs.Turning.{held_whole}
 use Rattle.rehearsal.proofs.rehearsal.reply_to_lines.Goals as goal
 
 -- whatever system the controller holds
-by_system : (c : goal.In-ok-perform) (S : System) → system_in c.load-controller.result ≡ S → Replied S c.args.pass.capacity c.args.lines.now (vec_items c.perform.new.replies)
+by_system : (c : goal.In_ok-perform) (S : System) → system_in c.load-controller.result ≡ S → Replied S c.args.pass.capacity c.args.lines.now (vec_items c.perform.new.replies)
 by_system c S system =
     let loads = c.load-controller.ensures in
     replied S c.args.pass.capacity c.args.lines.now (vec_items c.perform.new.replies) (held_whole S (system_in c.load-controller.result) c.args.pass.capacity c.prepare.new.pass.capacity c.load-controller.result.capacity (state_in c.load-controller.result) (vec_items c.new-replies.result) (vec_items c.prepare.new.replies) (vec_items c.perform.new.replies) c.args.lines.now c.in_ok-first.first c.new-replies.ensures.items system loads.capacity loads.state c.in_ok-first.ensures.replies c.in_ok-perform.ensures)
