@@ -149,7 +149,7 @@ pub(crate) fn has_start<A: QueueAbstraction>(
     ensures { Decides result (Represented (claim_of table.now.bytes.now set.now.bytes.now (A.bits abstraction.now) (A.code abstraction.now) (A.removals abstraction.now)) (start (system_of table.now.bytes.now))) }
 {
     let held = uniform(machines(table), abstraction.empty());
-    set.find(&held, 0).is_some()
+    set.contains(&held)
 }
 
 // The first thing wrong with the header or the records of a set.

@@ -3,7 +3,7 @@ ghost use Rattle.std.specs.Prelude.{◌≡◌, ℕ, ◌+◌, ◌-◌, ◌*◌, �
 ghost use Rattle.std.specs.Ordering.{MatchOrdering};
 ghost use Rattle.closed_sets.specs.Records.{code_in};
 ghost use Rattle.checker.specs.Held.{entry_of, record_in};
-ghost use Rattle.checker.specs.Inner.{Found};
+ghost use Rattle.checker.specs.Inner.{Found, ListedIn};
 ghost use Rattle.checker.specs.SetFile.{records_n, long_at, record_at, records_of, SetReady, entry_byte, byte_in, byte_of, record_byte, Before, Same};
 
 use crate::held::{Entry, Held, MOST_MACHINES, entry_at};
@@ -59,6 +59,16 @@ impl<'a> StateSet<'a> {
         ensures { Decides result (Before (9 * held.now.machines) (record_byte held.now.machines self.now.bytes.now (k - 1)) (record_byte held.now.machines self.now.bytes.now k)) }
     {
         is_above(self.bytes, k, held)
+    }
+
+    // Whether the record stands in the set.
+    pub(crate) fn contains(&self, target: &Held) -> bool
+        requires few { target.now.machines ≤ 6 }
+        requires sized { length (record_in target.now) ≡ target.now.machines }
+        requires ready { SetReady target.now.machines self.now.bytes.now }
+        ensures { Decides result (ListedIn (records_of target.now.machines self.now.bytes.now) (record_in target.now)) }
+    {
+        self.find(target, 0).is_some()
     }
 
     // Where the record stands in the set, if it does; `near` is where it is looked for first.

@@ -1,4 +1,4 @@
-use Rattle.std.proofs.Common.{◌≡◌, ℕ, ◌≤◌, Bool, List, [], map, length, replicate, Decides, sym, refl, ap, ◌∙◌, subst, arith}
+use Rattle.std.proofs.Common.{◌≡◌, ℕ, ◌≤◌, List, [], map, length, replicate, Decides, sym, refl, ap, ◌∙◌, subst, arith}
 use lib.ListN.{length-replicate}
 use lib.LanesLaws.{map-replicate}
 use Rattle.model.specs.State.{start}
@@ -6,15 +6,14 @@ use Rattle.model.specs.System.{machines}
 use Rattle.checker.specs.Held.{record_in}
 use Rattle.checker.specs.Inner.{ListedIn}
 use Rattle.checker.specs.SetFile.{claim_of, SetReady, records_of}
-use Rattle.checker.proofs.Read.{found_decides}
 use Rattle.closed_sets.specs.Records.{Record, codes}
 use Rattle.table.proofs.Parts.{machines_long}
 use Rattle.table.specs.Layout.{machines_n, events_n}
 use Rattle.table.specs.SystemOf.{system_of}
 use Rattle.checker.proofs.form.has_start.Goals as goal
 
-pub find-requires : goal.find-requires
-find-requires g c =
+pub contains-requires : goal.contains-requires
+contains-requires g c =
     let m = c.uniform-held.ensures.machines in
     record {
       few = omega (arith, m, c.machines.ensures, c.requires.ready.few);
@@ -34,7 +33,5 @@ returns g c =
     ∙ ap (λ (z : ℕ). replicate c.machines.result (0, z)) (c.empty.ensures ∙ sym (law.start (events_n bs)))
     ∙ ap (λ (z : ℕ). replicate z (0, q.code p (events_n bs) [])) (c.machines.ensures ∙ sym (machines_long bs))
     ∙ sym (map-replicate (λ (x : ℕ × List ℕ). (x.0, q.code p (events_n bs) x.1)) (machines (system_of bs)) (0, [])) in
-    let rs = records_of c.uniform-held.result.machines c.args.set.now.bytes.now in
-    let d = subst (λ (b : Bool). Decides b (ListedIn rs (record_in c.uniform-held.result))) (sym c.is_some.ensures) (found_decides rs (record_in c.uniform-held.result) c.find.result c.find.ensures) in
-    subst (λ (z : Record). Decides c.is_some.result (ListedIn (records_of (machines_n bs) c.args.set.now.bytes.now) z)) e
-    (subst (λ (z : ℕ). Decides c.is_some.result (ListedIn (records_of z c.args.set.now.bytes.now) (record_in c.uniform-held.result))) (c.uniform-held.ensures.machines ∙ c.machines.ensures) d)
+    subst (λ (z : Record). Decides c.contains.result (ListedIn (records_of (machines_n bs) c.args.set.now.bytes.now) z)) e
+    (subst (λ (z : ℕ). Decides c.contains.result (ListedIn (records_of z c.args.set.now.bytes.now) (record_in c.uniform-held.result))) (c.uniform-held.ensures.machines ∙ c.machines.ensures) c.contains.ensures)
