@@ -1,5 +1,5 @@
 -- Some state has the codes of a record; and one of its queues may be any with its code. Assumes nothing.
-use Rattle.std.proofs.Common.{◌≡◌, ℕ, zero, suc, ◌<◌, ◌≤◌, List, [], ◌∷◌, map, length, get_or, set, sym, refl, ap, ◌∙◌, subst, arith, get_or-set_same}
+use Rattle.std.proofs.Common.{◌≡◌, ℕ, zero, suc, ◌<◌, List, [], ◌∷◌, length, set, sym, refl, ap, ◌∙◌, subst, arith, get_or-set_same}
 use lib.ListN.{length-map}
 use lib.Seq.{map-set, map-set_same}
 use Rattle.model.proofs.States.{is_set}

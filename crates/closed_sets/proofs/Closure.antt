@@ -1,21 +1,19 @@
 -- Closed records hold what is reached; and the findings decide whether records are closed. Assumes nothing.
-use Rattle.std.proofs.Common.{◌≡◌, ℕ, zero, suc, ◌<◌, ◌≤◌, ◌≢◌, ◌⊎◌, List, [], ◌∷◌, ◌++◌, map, length, get_or, set, Some, sym, refl, ap, ◌∙◌, subst, inl, inr, arith, get_or-set_other, get_or-set_same}
-use Rattle.std.specs.List.{slice_get}
+use Rattle.std.proofs.Common.{◌≡◌, ℕ, zero, suc, ◌<◌, ◌⊎◌, List, [], ◌∷◌, length, get_or, sym, refl, ap, ◌∙◌, subst, inl, inr, arith, get_or-set_same}
 use Rattle.std.proofs.lemmas.List.{get_or-map}
 use Rattle.std.proofs.lemmas.Bool.{cases_eq}
 use Rattle.model.proofs.States.{start_is, step_is}
-use Rattle.model.specs.Bad.{Bad, Surprised}
+use Rattle.model.specs.Bad.{Bad}
 use Rattle.model.specs.Order.{Nothing}
 use Rattle.model.specs.Queue.{Over}
-use Rattle.model.specs.State.{State, local_at, queue_at, start, IsState}
+use Rattle.model.specs.State.{State, local_at, queue_at, IsState}
 use Rattle.model.specs.Steps.{Acts, Step, Reaches, begin, onward}
-use Rattle.model.specs.System.{System, machines, rule_of, WellFormed}
+use Rattle.model.specs.System.{machines, rule_of, WellFormed}
 use Rattle.model.specs.declared.rule.Action.{Action}
 use Rattle.model.specs.declared.rule.Action.TheVariants.{Local, Take, Send}
-use Rattle.model.specs.declared.rule.Rule.{Rule}
 use Rattle.abstraction.proofs.Nth.{nth_within}
-use Rattle.closed_sets.specs.Judging.{Leaves, Numbered, Applies, outcomes, judged}
-use Rattle.closed_sets.specs.Records.{Claim, Record, record_of, code_in, codes, Listed, Represented, Closed, Sound, Lets}
+use Rattle.closed_sets.specs.Judging.{Numbered, Applies, outcomes, judged}
+use Rattle.closed_sets.specs.Records.{Claim, Record, record_of, code_in, codes, Listed, Represented, Closed}
 use Rattle.closed_sets.specs.Theorems.{Means, SoundAll, ClosedHolds, FoundNothing, ClosedNothing}
 
 module _ (T : Claim) (p : WellFormed T.system) (c : Closed T) where

@@ -1,16 +1,16 @@
 -- What a record lets happen: surprise and patterns. Assumes nothing.
-use Rattle.std.proofs.Common.{◌≡◌, ℕ, zero, suc, ◌<◌, ◌≤◌, ◌≢◌, List, [], ◌∷◌, length, get_or, set, sym, refl, ap, ◌∙◌, subst, arith, get_or-set_other, get_or-set_same}
+use Rattle.std.proofs.Common.{◌≡◌, ℕ, suc, ◌<◌, ◌≤◌, ◌≢◌, List, [], ◌∷◌, length, set, sym, refl, ap, ◌∙◌, subst, arith, get_or-set_other}
 use Rattle.std.specs.List.{AllByRecursion as All}
-use Rattle.model.specs.Bad.{NoTake, LocalIs, Holds, Met, Surprised}
-use Rattle.model.specs.Queue.{Over, Covers, Begins}
+use Rattle.model.specs.Bad.{NoTake, LocalIs, Met, Surprised}
+use Rattle.model.specs.Queue.{Covers, Begins}
 use Rattle.model.specs.State.{State, local_at, queue_at, IsState}
 use Rattle.model.specs.System.{System, machines, Rise, ConditionFits}
 use Rattle.model.specs.declared.pattern.Condition.{Condition}
 use Rattle.model.specs.declared.queue.Front.TheVariants.{Event}
 use Rattle.abstraction.proofs.Masks.{covers_zero}
-use Rattle.closed_sets.proofs.Chosen.{local_is, code_is, as_long, chosen, requeued, queue_set}
-use Rattle.closed_sets.specs.Codes.{MaySurprise, MayHold, MayMeet, SurpriseLets, PatternLets}
-use Rattle.closed_sets.specs.Records.{Claim, Record, code_in, local_in, codes, Sound, Lets}
+use Rattle.closed_sets.proofs.Chosen.{local_is, code_is, chosen, requeued, queue_set}
+use Rattle.closed_sets.specs.Codes.{MaySurprise, MayMeet, SurpriseLets, PatternLets}
+use Rattle.closed_sets.specs.Records.{Claim, Record, codes, Sound, Lets}
 
 -- the machines of the conditions are there, at least `low`, and rise strictly
 abbrev Ordered : ℕ → ℕ → List Condition → Type 0

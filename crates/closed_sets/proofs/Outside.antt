@@ -1,9 +1,7 @@
 -- What a record lets happen: steps. Assumes nothing.
-use Rattle.std.proofs.Common.{◌≡◌, ℕ, zero, suc, ◌<◌, ◌≤◌, ◌≢◌, ◌⊎◌, List, [], ◌∷◌, ◌++◌, length, get_or, set, Some, Option, sym, refl, ap, ◌∙◌, subst, inl, inr, arith, get_or-set_other, get_or-set_same}
-use Rattle.std.specs.List.{slice_get}
+use Rattle.std.proofs.Common.{◌≡◌, ℕ, ◌<◌, List, [], ◌∷◌, ◌++◌, length, set, Some, Option, sym, refl, ap, ◌∙◌, subst, inl, inr, arith, get_or-set_other}
 use Rattle.std.proofs.lemmas.Bool.{cases_eq}
 use Rattle.model.proofs.States.{is_set}
-use Rattle.model.specs.Queue.{Over}
 use Rattle.model.specs.State.{State, local_at, queue_at, IsState}
 use Rattle.model.specs.Steps.{Acts, moved, sent}
 use Rattle.model.specs.System.{machines, RuleFits, ActionFits}
@@ -11,8 +9,8 @@ use Rattle.model.specs.declared.rule.Action.{Action}
 use Rattle.model.specs.declared.rule.Action.TheVariants.{Local, Take, Send}
 use Rattle.model.specs.declared.rule.Rule.{Rule}
 use Rattle.abstraction.proofs.Nth.{some_same}
-use Rattle.closed_sets.proofs.Chosen.{local_is, code_is, as_long, codes_set, chosen, requeued, queue_set}
-use Rattle.closed_sets.specs.Codes.{moved_in, sent_in, Appends, Leads, OutsideLets, OutsideNot}
+use Rattle.closed_sets.proofs.Chosen.{local_is, code_is, codes_set, chosen, requeued, queue_set}
+use Rattle.closed_sets.specs.Codes.{moved_in, sent_in, Leads, OutsideLets, OutsideNot}
 use Rattle.closed_sets.specs.Judging.{Leaves, Numbered}
 use Rattle.closed_sets.specs.Records.{Claim, Record, code_in, local_in, codes, Listed, Sound, Lets}
 use Rattle.closed_sets.specs.Theorems.{Means}

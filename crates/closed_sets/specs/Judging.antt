@@ -1,5 +1,5 @@
 -- What can be wrong with the records of a claim, in the order in which it counts. Assumes nothing.
-use Rattle.std.specs.Prelude.{◌≡◌, ℕ, List, length, Some, Result}
+use Rattle.std.specs.Prelude.{◌≡◌, ℕ, length, Some, Result}
 use Rattle.std.specs.List.{slice_get}
 use Rattle.model.specs.declared.fault.Fault.{Fault}
 use Rattle.model.specs.declared.fault.Refusal.TheVariants.{Surprise, PatternMet, StepOutside}

@@ -1,15 +1,12 @@
 -- A table with nothing wrong stands for a well-formed system. Assumes nothing.
-use Rattle.std.proofs.Common.{◌≡◌, ℕ, zero, suc, ◌+◌, ◌-◌, ◌*◌, ◌^◌, ◌<◌, ◌≤◌, Bool, true, cond, eqb, ◌⊎◌, List, length, Some, None, Option, sym, refl, ap, ◌∙◌, subst, inl, inr, arith}
-use Rattle.std.specs.List.{AllByRecursion as All}
+use Rattle.std.proofs.Common.{◌≡◌, ℕ, zero, suc, ◌+◌, ◌-◌, ◌^◌, ◌<◌, ◌≤◌, Bool, cond, eqb, ◌⊎◌, List, length, Some, None, sym, ap, ◌∙◌, subst, inl, inr, arith}
 use Rattle.std.proofs.lemmas.Bool.{cases_lt, cases_eq, eq-eqb, ne_eqb, eqb-true}
-use Rattle.model.specs.declared.queue.Front.{Front}
 use Rattle.model.specs.declared.queue.Front.TheVariants.{Any, Empty, Event}
-use Rattle.model.specs.declared.rule.Action.{Action}
 use Rattle.model.specs.declared.rule.Action.TheVariants.{Local, Take, Send}
 use Rattle.model.specs.declared.pattern.Condition.{Condition}
-use Rattle.model.specs.System.{machines, states_of, rule_of, pattern_of, ActionFits, RuleFits, LocalFits, FrontFits, ConditionFits, PatternFits, Rise, WellFormed}
-use Rattle.table.specs.Bytes.{byte_at, word_at}
-use Rattle.table.specs.Layout.{machines_n, events_n, rules_n, pattern_lines_n, patterns_at, end_at, machine_offset, rule_offset, pattern_offset}
+use Rattle.model.specs.System.{machines, states_of, rule_of, pattern_of, ActionFits, RuleFits, LocalFits, FrontFits, ConditionFits, PatternFits, WellFormed}
+use Rattle.table.specs.Bytes.{byte_at}
+use Rattle.table.specs.Layout.{machines_n, events_n, rules_n, pattern_lines_n, end_at, rule_offset, pattern_offset}
 use Rattle.table.specs.Lines.{action_of, rule_at, local_of, front_of, condition_at}
 use Rattle.table.specs.SystemOf.{number_of, pattern_count, conditions_of, system_of}
 use Rattle.table.specs.Findings.{bounds, states_at, GoodMachine, GoodAction, GoodRuleAt, Follows, GoodConditionAt, GoodPatternAt}

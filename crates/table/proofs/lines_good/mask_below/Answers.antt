@@ -1,4 +1,4 @@
-use Rattle.std.proofs.Common.{◌^◌, ◌<◌, ◌≤◌, arith, pow_mono}
+use Rattle.std.proofs.Common.{◌^◌, ◌≤◌, arith, pow_mono}
 use Rattle.std.proofs.lemmas.Bool.{le-leb}
 use Rattle.table.proofs.lines_good.mask_below.Goals as goal
 

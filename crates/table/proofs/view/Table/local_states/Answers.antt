@@ -1,4 +1,4 @@
-use Rattle.std.proofs.Common.{◌≡◌, ℕ, Some, sym, ap, ◌∙◌, arith}
+use Rattle.std.proofs.Common.{Some, sym, ap, ◌∙◌, arith}
 use Rattle.table.specs.Bytes.{byte_at}
 use Rattle.table.specs.Layout.{machines_n, machine_offset}
 use Rattle.table.proofs.Parts.{nth_counted, nth_counted_past, machines_long}

@@ -1,4 +1,4 @@
-use Rattle.std.proofs.Common.{◌≡◌, Some, sym, ap, ◌∙◌, arith}
+use Rattle.std.proofs.Common.{Some, sym, ap, ◌∙◌, arith}
 use Rattle.table.specs.Layout.{pattern_lines_n, pattern_offset}
 use Rattle.table.specs.Lines.{pattern_line_at}
 use Rattle.table.proofs.Parts.{nth_counted, nth_counted_past, lines_long}

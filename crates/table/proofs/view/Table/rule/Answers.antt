@@ -1,4 +1,4 @@
-use Rattle.std.proofs.Common.{◌≡◌, Some, sym, ap, ◌∙◌, arith}
+use Rattle.std.proofs.Common.{Some, sym, ap, ◌∙◌, arith}
 use Rattle.table.specs.Layout.{rules_n, rule_offset}
 use Rattle.table.specs.Lines.{rule_at}
 use Rattle.table.proofs.Parts.{nth_counted, nth_counted_past, rules_long}
