@@ -1,10 +1,10 @@
 -- Where a text is cut: at the line feeds, and at the blank between two numbers.
-use Rattle.std.proofs.Common.{◌≡◌, ℕ, zero, suc, ◌+◌, ◌<◌, ◌≤◌, Bool, true, false, cond, List, [], ◌∷◌, ◌++◌, length, get_or, take, drop, Some, None, Option, sym, refl, ap, ◌∙◌, subst, arith, eq-eqb, ne_eqb}
+use Rattle.std.proofs.Common.{◌≡◌, ℕ, suc, ◌+◌, ◌<◌, List, [], ◌∷◌, ◌++◌, length, get_or, take, drop, sym, refl, ap, ◌∙◌, subst, arith, ne_eqb}
 use Rattle.std.specs.Str.Parse.{AllDigits}
 use Rattle.std.proofs.lemmas.List.{get_or_at, get_or-take, length-append, length-take-le, take-append-drop, drop_more}
 use Rattle.std.proofs.lemmas.Str.Parse.{digit_at}
 use Rattle.calls.specs.Lines.{lines_of, longer, Lacks, Cut}
-use Rattle.calls.specs.Numbers.{Writes, WritesTwo, Finds}
+use Rattle.calls.specs.Numbers.{Writes, WritesTwo}
 
 lacks_rest : (byte b : ℕ) (bs : List ℕ) → Lacks byte (b ∷ bs) → Lacks byte bs
 lacks_rest byte b bs none = λ i h. none (suc i) (omega arith)

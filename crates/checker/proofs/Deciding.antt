@@ -1,24 +1,22 @@
 -- What the tests of a record that is held decide. Assumes nothing.
-use Rattle.std.proofs.Common.{◌≡◌, ℕ, zero, suc, ◌+◌, ◌*◌, ◌<◌, ◌≤◌, Bool, true, false, List, [], ◌∷◌, ◌++◌, map, length, get_or, take, set, Some, Ok, Err, Decides, Result, sym, refl, ap, ◌∙◌, subst, arith}
+use Rattle.std.proofs.Common.{◌≡◌, ℕ, ◌<◌, Bool, List, [], ◌∷◌, ◌++◌, length, get_or, Some, Ok, Err, Decides, Result, sym, refl, ap, ◌∙◌, subst, arith}
 use Rattle.model.specs.Bad.{NoTake}
 use Rattle.model.specs.Order.{each, one}
 use Rattle.model.specs.Queue.{Over}
 use Rattle.model.specs.System.{System, machines, WellFormed, RuleFits, pattern_of, rule_of}
 use Rattle.model.specs.declared.fault.Fault.{Fault}
-use Rattle.model.specs.declared.pattern.Condition.{Condition}
 use Rattle.model.specs.declared.queue.Front.TheVariants.{Event}
 use Rattle.model.specs.declared.rule.Action.{Action}
-use Rattle.model.specs.declared.rule.Action.TheVariants.{Local, Take, Send}
+use Rattle.model.specs.declared.rule.Action.TheVariants.{Take}
 use Rattle.model.specs.declared.rule.Rule.{Rule}
 use Rattle.abstraction.proofs.Nth.{some_same}
 use Rattle.abstraction.specs.Meaning.{Allowed}
 use Rattle.checker.specs.Held.{record_in}
 use Rattle.checker.specs.Inner.{Judging, Calm, ListedIn, Enabled, Inside}
-use Rattle.checker.specs.SetFile.{records_of}
 use Rattle.checker.specs.declared.held.Held.{Held}
 use Rattle.closed_sets.proofs.Lets.{surprise_lets, pattern_lets}
 use Rattle.closed_sets.proofs.Outside.{outside_lets, outside_not}
-use Rattle.closed_sets.specs.Codes.{MaySurprise, MayMeet, Leads, moved_in}
+use Rattle.closed_sets.specs.Codes.{MaySurprise, MayMeet, Leads}
 use Rattle.closed_sets.specs.Judging.{Leaves, Applies, Judged, outcomes, outcomes_of, surprise, met, outside}
 use Rattle.closed_sets.specs.Records.{Claim, Record, record_of, local_in, code_in, Listed, Lets}
 use Rattle.closed_sets.specs.Theorems.{Means}

@@ -1,12 +1,11 @@
 -- Entries that are held, and the record that they are. Assumes nothing.
-use Rattle.std.proofs.Common.{◌≡◌, ℕ, zero, suc, ◌+◌, ◌*◌, ◌<◌, ◌≤◌, List, [], ◌∷◌, map, length, get_or, take, set, sym, refl, ap, ◌∙◌, subst, arith, get_or-take}
+use Rattle.std.proofs.Common.{◌≡◌, ℕ, zero, suc, ◌<◌, ◌≤◌, List, [], ◌∷◌, map, length, get_or, take, set, refl, ap, ◌∙◌, arith, get_or-take}
 use lib.ListN.{length-map}
 use Rattle.std.proofs.lemmas.List.{length-take-le}
 use lib.Seq.{map-set, take-set-lt}
 use Rattle.checker.specs.Held.{entry_of, record_in}
 use Rattle.checker.specs.declared.held.Entry.{Entry}
 use Rattle.checker.specs.declared.held.Held.{Held}
-use Rattle.closed_sets.specs.Records.{Record}
 
 abbrev pub blank : Entry
 blank = record { local = 0; code = 0 }

@@ -1,10 +1,9 @@
 -- Runs of bytes in order, and the records that they are. Assumes nothing.
-use Rattle.std.proofs.Common.{◌≡◌, ℕ, zero, suc, ◌+◌, ◌-◌, ◌*◌, ◌/◌, ◌%◌, ◌^◌, ◌<◌, ◌≤◌, Bool, cond, eqb, ◌⊎◌, List, [], ◌∷◌, map, length, get_or, sym, refl, ap, ◌∙◌, subst, inl, inr, mul-le-mul_left, mul-suc, arith}
-use Rattle.std.specs.List.{range_with_len}
+use Rattle.std.proofs.Common.{◌≡◌, ℕ, zero, suc, ◌+◌, ◌-◌, ◌*◌, ◌/◌, ◌%◌, ◌^◌, ◌<◌, ◌≤◌, Bool, cond, List, length, get_or, sym, ap, ◌∙◌, subst, inl, inr, mul-le-mul_left, mul-suc, arith}
 use Rattle.std.proofs.lemmas.Bool.{cases_lt, cases_eq, ne_eqb}
 use Rattle.std.proofs.lemmas.List.FromFn.{fill_by_all, get_or-map-range_with_len}
 use Rattle.checker.specs.SetFile.{record_byte, byte_of, byte_in, Before, Same, long_at, record_at}
-use Rattle.closed_sets.specs.Records.{Record, code_in, local_in}
+use Rattle.closed_sets.specs.Records.{Record, code_in}
 use Rattle.table.specs.Bytes.{word_at}
 
 pub before_trans : (z : ℕ) (f g h : ℕ → ℕ) → Before z f g → Before z g h → Before z f h

@@ -1,19 +1,11 @@
 -- The parts of the system in a table, and of the records in a set. Assumes nothing.
 use Rattle.std.proofs.Common.{◌≡◌, ℕ, zero, suc, ◌+◌, ◌*◌, ◌<◌, ◌≤◌, Bool, true, false, cond, List, [], ◌∷◌, map, length, get_or, is_some, Some, None, Decides, filter, Option, sym, refl, ap, ◌∙◌, subst, inl, inr, arith}
-use Rattle.std.specs.List.{AllByRecursion as All, slice_get, range_with_len}
-use Rattle.std.proofs.lemmas.Bool.{cases_Bool, cases_eq, cases_lt}
-use Rattle.std.proofs.lemmas.Option.{slice_get-get_or}
-use Rattle.model.specs.System.{System, machines, rule_of, pattern_of}
-use Rattle.model.specs.declared.pattern.Condition.{Condition}
-use Rattle.model.specs.declared.rule.Action.TheVariants.{Local}
-use Rattle.abstraction.proofs.Nth.{none_some}
+use Rattle.std.specs.List.{AllByRecursion as All, range_with_len}
+use Rattle.std.proofs.lemmas.Bool.{cases_Bool, cases_eq}
 use Rattle.checker.specs.Inner.{Found, ListedIn}
 use Rattle.checker.specs.SetFile.{record_at, records_of, long_at}
-use Rattle.closed_sets.specs.Records.{Record, local_in, code_in}
+use Rattle.closed_sets.specs.Records.{Record}
 use Rattle.table.specs.Bytes.{word_at}
-use Rattle.table.specs.Layout.{machines_n, rules_n, rules_at}
-use Rattle.table.specs.Lines.{rule_at}
-use Rattle.table.specs.SystemOf.{conditions_of, pattern_count, system_of}
 use Rattle.std.proofs.lemmas.List.FromFn.{length-map-range_with_len, get_or-map-range_with_len}
 
 module _ (n : ℕ) (bs : List ℕ) where

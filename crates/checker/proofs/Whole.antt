@@ -1,18 +1,17 @@
 -- From the parts of a check to its verdict. Assumes nothing.
-use Rattle.std.proofs.Common.{◌≡◌, ℕ, ◌+◌, ◌-◌, ◌*◌, ◌<◌, ◌≤◌, List, length, IfOk, Ok, Err, Result, subst, inl, inr, arith, MatchResult}
+use Rattle.std.proofs.Common.{◌≡◌, ℕ, ◌+◌, ◌-◌, ◌*◌, ◌≤◌, List, length, IfOk, Ok, Err, Result, subst, inl, inr, arith, MatchResult}
 use Rattle.std.proofs.lemmas.Bool.{cases_lt}
 use Rattle.model.specs.declared.fault.Fault.{Fault}
 use Rattle.model.specs.State.{start}
 use Rattle.model.specs.System.{WellFormed}
-use Rattle.model.specs.Order.{Order, each, under, Nothing, FirstFault, Answered, ◌then◌}
+use Rattle.model.specs.Order.{each, under, Nothing, FirstFault, Answered, ◌then◌}
 use Rattle.model.proofs.Findings.{nothing_under, not_both, answered_after}
 use Rattle.table.specs.Layout.{machines_n}
-use Rattle.table.specs.Reading.{Reads, Refuses}
+use Rattle.table.specs.Reading.{Reads}
 use Rattle.table.specs.Findings as reading
-use Rattle.table.specs.SystemOf.{system_of}
 use Rattle.table.proofs.Wholesome.{reads_well_formed, some_machines, few_machines, few_events, few_rules, few_lines, line_machine}
 use Rattle.table.proofs.Stable.{stable_eq}
-use Rattle.closed_sets.specs.Records.{Claim, Closed, Represented, Sound, record_of}
+use Rattle.closed_sets.specs.Records.{Claim, Closed, Represented}
 use Rattle.closed_sets.specs.Judging as judging
 use Rattle.closed_sets.specs.Theorems.{Means, SoundAll}
 use Rattle.closed_sets.proofs.Closure.{found_nothing, closed_nothing, closed_holds}
@@ -20,7 +19,7 @@ use Rattle.checker.specs.Inner.{Formed}
 use Rattle.checker.specs.Promise.{GoodForm, Passes, Safe}
 use Rattle.checker.specs.Ready.{Ready}
 use Rattle.checker.specs.SetFile.{records_n, record_byte, Before, SetReady}
-use Rattle.checker.specs.Verdict.{Finding, in_table, in_header, in_record, HeaderApplies, header_order, Applies, numbers, form_of, form_order, closed_order, table_order, order}
+use Rattle.checker.specs.Verdict.{in_table, in_header, in_record, HeaderApplies, header_order, Applies, numbers, form_of, form_order, table_order, order}
 
 pub reads_ready : (bs : List ℕ) → Reads bs → Ready bs
 reads_ready bs r = record {

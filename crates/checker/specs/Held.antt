@@ -1,5 +1,5 @@
 -- A record as the check holds it. Assumes nothing.
-use Rattle.std.specs.Prelude.{ℕ, List, map, take}
+use Rattle.std.specs.Prelude.{ℕ, map, take}
 use Rattle.closed_sets.specs.Records.{Record}
 use Rattle.checker.specs.declared.held.Entry.{Entry}
 use Rattle.checker.specs.declared.held.Held.{Held}

@@ -1,5 +1,5 @@
 -- The state that the entries stand for, machine by machine. Assumes nothing.
-use Rattle.std.proofs.Common.{◌≡◌, ℕ, zero, suc, ◌-◌, ◌<◌, ◌≤◌, List, [], ◌∷◌, map, length, get_or, take, set, refl, ap, ◌∙◌, inl, inr, arith, length-set, length-take-le, get_or-set_other, get_or-take, get_or-set_same}
+use Rattle.std.proofs.Common.{◌≡◌, ℕ, zero, suc, ◌<◌, ◌≤◌, List, [], ◌∷◌, map, length, get_or, take, set, refl, ap, ◌∙◌, inl, inr, arith, length-set, length-take-le, get_or-set_other, get_or-take, get_or-set_same}
 use lib.ListN.{length-map}
 use lib.Seq.{map-set, take-set-lt, set_out}
 use Rattle.std.proofs.lemmas.List.{get_or_past}

@@ -1,5 +1,5 @@
 -- Which layers a kind and a number kept name. Assumes nothing.
-use Rattle.std.proofs.Common.{◌≡◌, ℕ, refl, subst}
+use Rattle.std.proofs.Common.{◌≡◌, ℕ}
 use Rattle.std.proofs.lemmas.Bool.{eq-eqb, ne_eqb}
 use Rattle.queue_check.specs.Layers.{Layers, list, mask, blank, keeping, of_kind, under}
 

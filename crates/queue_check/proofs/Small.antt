@@ -1,5 +1,5 @@
 -- The values of a fault fit their places. Assumes nothing.
-use Rattle.std.proofs.Common.{◌≡◌, ℕ, zero, suc, ◌+◌, ◌-◌, ◌*◌, ◌/◌, ◌%◌, ◌^◌, ◌<◌, ◌≤◌, Bool, true, false, cond, ◌&&◌, eqb, ltb, leb, List, [], ◌∷◌, ◌++◌, map, length, sym, refl, ap, ◌∙◌, subst, inl, inr, arith, length-append}
+use Rattle.std.proofs.Common.{◌≡◌, ℕ, zero, suc, ◌+◌, ◌-◌, ◌*◌, ◌/◌, ◌%◌, ◌^◌, ◌<◌, ◌≤◌, Bool, true, false, cond, ◌&&◌, eqb, ltb, leb, List, [], ◌∷◌, map, length, sym, refl, subst, inl, inr, arith, length-append}
 use lib.ListN.{length-map}
 use Rattle.std.proofs.lemmas.Bool.{cases_Bool, cases_eq, eq-eqb, ne_eqb, leb-true}
 use Rattle.std.proofs.lemmas.List.FromFn.{length-map-range_with_len}
@@ -8,21 +8,20 @@ use Rattle.model.specs.declared.fault.Refusal.{Refusal}
 use Rattle.model.specs.declared.rule.Action.{Action}
 use Rattle.model.specs.declared.rule.Action.TheVariants.{Local, Take, Send}
 use Rattle.model.specs.declared.rule.Rule.{Rule}
-use Rattle.model.specs.System.{machines, rule_of}
-use Rattle.model.specs.Order.{Order, one, ◌then◌, each, Nothing, First, FirstFault}
+use Rattle.model.specs.System.{rule_of}
+use Rattle.model.specs.Order.{Order, one, ◌then◌, each, First, FirstFault}
 use Rattle.table.specs.Bytes.{byte_at, word_at}
 use Rattle.table.specs.Header.{fault_at}
 use Rattle.table.specs.Layout.{machines_n, pattern_lines_n, machine_offset, rule_offset, pattern_offset}
 use Rattle.table.specs.SystemOf.{system_of, pattern_count, number_of}
 use Rattle.table.proofs.Parts.{machines_long, rules_long, patterns_long}
-use Rattle.blank_abstraction.specs.Blank.{blank_good, each_event, blank_removals}
-use Rattle.set_abstraction.specs.Set.{present, absent, set_from, set_good, set_removals}
-use Rattle.list_abstraction.specs.List.{unpack, pack, insertions, removals_of, list_good, list_removals}
-use Rattle.keep_first.specs.KeepFirst.{begun, keep_bits, kept, keep_taken, keep_removals}
-use Rattle.closed_sets.specs.Records.{Claim, Record, record_of}
+use Rattle.blank_abstraction.specs.Blank.{blank_good, each_event}
+use Rattle.set_abstraction.specs.Set.{present, absent, set_from, set_good}
+use Rattle.list_abstraction.specs.List.{unpack, pack, insertions, removals_of, list_good}
+use Rattle.keep_first.specs.KeepFirst.{begun, keep_bits, kept, keep_taken}
+use Rattle.closed_sets.specs.Records.{Record, record_of}
 use Rattle.closed_sets.specs.Judging.{outcomes}
-use Rattle.checker.specs.Verdict.{Finding, Applies, numbers, order}
-use Rattle.checker.specs.SetFile.{records_n}
+use Rattle.checker.specs.Verdict.{Applies, numbers, order}
 use Rattle.checker.proofs.Read.{records_long}
 use Rattle.queue_check.specs.Layers.{Layers, list, mask, blank, keeping, of_kind, under, named, claim_under}
 use Rattle.queue_check.specs.Packed.{Fits}

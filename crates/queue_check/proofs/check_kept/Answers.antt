@@ -1,4 +1,4 @@
-use Rattle.std.proofs.Common.{◌≡◌, sym, subst, arith}
+use Rattle.std.proofs.Common.{sym, subst, arith}
 use Rattle.table.specs.Bytes.{word_at}
 use Rattle.checker.specs.Promise.{Checked}
 use Rattle.queue_check.specs.Layers.{Layers, claim_under}

@@ -1,5 +1,4 @@
-use Rattle.std.proofs.Common.{◌≡◌, Ok, Err, refl}
-use Rattle.queue_check.specs.Packed.{Fits}
+use Rattle.std.proofs.Common.{Err}
 use Rattle.queue_check.proofs.Small.{fault_fits}
 use Rattle.queue_check.proofs.queue_check.Goals as goal
 

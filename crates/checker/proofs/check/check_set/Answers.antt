@@ -1,5 +1,4 @@
 use Rattle.std.proofs.lemmas.Result.{err_from_is_err_and}
-use Rattle.std.proofs.Common.{Err}
 use Rattle.model.proofs.Findings.{answered_first, answered_after}
 use Rattle.checker.specs.SetFile.{claim_of}
 use Rattle.checker.specs.Verdict.{Applies, numbers, form_order, closed_order}

@@ -1,4 +1,4 @@
-use Rattle.std.proofs.Common.{◌≡◌, ℕ, List, Err, sym, refl, subst}
+use Rattle.std.proofs.Common.{ℕ, List, Err, sym, subst}
 use Rattle.std.proofs.lemmas.Result.{err_from_is_err_and}
 use Rattle.model.specs.Order.{Nothing, FirstFault}
 use Rattle.model.proofs.Findings.{answered_first, answered_after, answered_under}

@@ -1,4 +1,4 @@
-use Rattle.std.proofs.Common.{◌≡◌, ℕ, ◌*◌, List, subst}
+use Rattle.std.proofs.Common.{ℕ, ◌*◌, List, subst}
 use Rattle.model.specs.declared.fault.Refusal.TheVariants.{SetHeader}
 use Rattle.model.specs.Order.{Answered}
 use Rattle.model.proofs.Findings.{answered_under}

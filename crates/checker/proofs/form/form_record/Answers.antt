@@ -1,11 +1,9 @@
-use Rattle.std.proofs.Common.{◌≡◌, ℕ, ◌+◌, ◌-◌, ◌*◌, ◌<◌, ◌≤◌, length, sym, refl, ap, ◌∙◌, subst, inl, inr, arith}
+use Rattle.std.proofs.Common.{◌≡◌, ℕ, ◌+◌, ◌-◌, ◌*◌, ◌≤◌, length, sym, refl, ap, ◌∙◌, subst, inl, inr, arith}
 use Rattle.std.proofs.lemmas.Bool.Decides.{not_from_Decides}
-use Rattle.std.proofs.lemmas.List.FromFn.{length-map-range_with_len}
 use Rattle.checker.proofs.Ordered.{room}
 use Rattle.checker.proofs.Read.{record_at_lem, record_long}
 use Rattle.checker.specs.Held.{record_in}
 use Rattle.checker.specs.SetFile.{record_at, Before, record_byte}
-use Rattle.closed_sets.specs.Records.{Record}
 use Rattle.table.specs.Bytes.{word_at}
 use Rattle.table.specs.Layout.{machines_n}
 use Rattle.checker.specs.Verdict.{record_parts, record_order}

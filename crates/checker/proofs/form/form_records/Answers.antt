@@ -1,7 +1,6 @@
-use Rattle.std.proofs.Common.{◌≡◌, ℕ, ◌+◌, ◌-◌, ◌*◌, ◌<◌, sym, refl, ap, ◌∙◌, subst, arith, below_more}
+use Rattle.std.proofs.Common.{◌≡◌, ℕ, ◌+◌, ◌-◌, ◌*◌, subst, arith, below_more}
 use Rattle.std.proofs.lemmas.Result.{err_from_is_err_and}
 use Rattle.checker.specs.SetFile.{Before, record_byte}
-use Rattle.table.specs.Bytes.{word_at}
 use Rattle.table.specs.Layout.{machines_n}
 use Rattle.checker.proofs.form.form_records.Goals as goal
 

@@ -1,4 +1,4 @@
-use Rattle.std.proofs.Common.{◌≡◌, ℕ, ◌≤◌, List, [], map, length, replicate, Decides, sym, refl, ap, ◌∙◌, subst, arith}
+use Rattle.std.proofs.Common.{◌≡◌, ℕ, List, [], length, replicate, Decides, sym, ap, ◌∙◌, subst, arith}
 use lib.ListN.{length-replicate}
 use lib.LanesLaws.{map-replicate}
 use Rattle.model.specs.State.{start}

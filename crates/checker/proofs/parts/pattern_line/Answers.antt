@@ -1,4 +1,4 @@
-use Rattle.std.proofs.Common.{◌≡◌, is_some, Some, sym, ap, ◌∙◌}
+use Rattle.std.proofs.Common.{is_some, sym, ap, ◌∙◌}
 use Rattle.abstraction.proofs.Nth.{some_same}
 use Rattle.table.specs.Layout.{pattern_lines_n, pattern_offset}
 use Rattle.table.specs.Lines.{pattern_line_at}

@@ -1,4 +1,4 @@
-use Rattle.std.proofs.Common.{◌≡◌, sym, refl, ap, ◌∙◌, subst, arith}
+use Rattle.std.proofs.Common.{refl, arith}
 use Rattle.closed_sets.specs.Judging.{met}
 use Rattle.table.proofs.Parts.{patterns_long}
 use Rattle.checker.proofs.pattern.check_patterns.Goals as goal

@@ -1,4 +1,4 @@
-use Rattle.std.proofs.Common.{◌≡◌, ℕ, ◌+◌, ◌*◌, ◌<◌, eqb, List, length, get_or, sym, refl, ap, ◌∙◌, subst, arith, below_more}
+use Rattle.std.proofs.Common.{◌≡◌, ◌<◌, eqb, List, length, sym, subst, arith, below_more}
 use Rattle.std.proofs.lemmas.Bool.Decides.{when_true, when_false}
 use Rattle.std.proofs.lemmas.Bool.{eq-eqb, eqb-true}
 use Rattle.model.specs.declared.pattern.Condition.{Condition}
@@ -9,10 +9,9 @@ use Rattle.checker.specs.SetFile.{claim_of}
 use Rattle.closed_sets.specs.Codes.{MayHold, MayMeet}
 use Rattle.closed_sets.specs.Records.{record_of}
 use Rattle.table.proofs.Parts.{patterns_long, pattern_at, lines_long}
-use Rattle.table.specs.Layout.{machines_n, pattern_offset, pattern_lines_n}
+use Rattle.table.specs.Layout.{pattern_offset, pattern_lines_n}
 use Rattle.table.specs.Lines.{condition_at}
-use Rattle.table.specs.declared.line.PatternLine.{PatternLine}
-use Rattle.table.specs.SystemOf.{number_of, system_of, conditions_of}
+use Rattle.table.specs.SystemOf.{number_of, system_of}
 use Rattle.checker.proofs.pattern.kept_by.Goals as goal
 
 pub returns-then-keeps : goal.returns-then-keeps

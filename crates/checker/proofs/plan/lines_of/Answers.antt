@@ -1,6 +1,6 @@
-use Rattle.std.proofs.Common.{◌≡◌, ℕ, ◌<◌, ◌≢◌, length, get_or, set, sym, ap, ◌∙◌, arith, length-set, get_or-set_other, get_or-set_same, below_more}
+use Rattle.std.proofs.Common.{◌≡◌, ◌<◌, ◌≢◌, length, get_or, set, ◌∙◌, arith, length-set, get_or-set_other, get_or-set_same, below_more}
 use Rattle.table.proofs.Parts.{lines_long}
-use Rattle.table.specs.Layout.{pattern_lines_n, pattern_offset}
+use Rattle.table.specs.Layout.{pattern_offset}
 use Rattle.table.specs.Lines.{pattern_line_at}
 use Rattle.checker.specs.Plan.{no_line}
 use Rattle.checker.proofs.plan.lines_of.Goals as goal

@@ -1,4 +1,4 @@
-use Rattle.std.proofs.Common.{◌≡◌, ℕ, ◌-◌, ◌*◌, ◌<◌, sym, refl, ap, ◌∙◌, arith}
+use Rattle.std.proofs.Common.{◌-◌, ◌*◌, sym, refl, ◌∙◌}
 use Rattle.checker.proofs.Ordered.{before_trans, before_not, before_right, same_sym, same_bytes}
 use Rattle.checker.proofs.Read.{decides_true, decides_false}
 use Rattle.checker.specs.Held.{record_in}

@@ -1,4 +1,4 @@
-use Rattle.std.proofs.Common.{◌≡◌, ℕ, ◌<◌, length, sym, refl, arith, below_more}
+use Rattle.std.proofs.Common.{◌<◌, refl, arith, below_more}
 use Rattle.model.specs.System.{rule_of}
 use Rattle.table.proofs.Parts.{rules_long, machines_long}
 use Rattle.table.specs.Layout.{rules_n}

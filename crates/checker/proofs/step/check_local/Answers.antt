@@ -1,10 +1,10 @@
-use Rattle.std.proofs.Common.{◌≡◌, ℕ, List, sym, refl, ap, ◌∙◌, subst}
+use Rattle.std.proofs.Common.{◌≡◌, ℕ, refl, ap}
 use Rattle.model.specs.declared.rule.Action.TheVariants.{Local}
 use Rattle.checker.proofs.Deciding.{judged_inside, entry_is}
 use Rattle.checker.specs.Held.{record_in}
 use Rattle.checker.specs.SetFile.{claim_of, records_of}
 use Rattle.closed_sets.specs.Codes.{moved_in}
-use Rattle.closed_sets.specs.Records.{Record, record_of, code_in}
+use Rattle.closed_sets.specs.Records.{record_of, code_in}
 use Rattle.checker.proofs.step.check_local.Goals as goal
 
 pub returns : goal.returns

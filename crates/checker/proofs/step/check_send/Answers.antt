@@ -1,13 +1,12 @@
-use Rattle.std.proofs.Common.{◌≡◌, ℕ, ◌<◌, List, [], ◌∷◌, ◌++◌, length, get_or, set, sym, refl, ap, ◌∙◌, subst, arith, length-set}
-use Rattle.model.specs.Queue.{Over}
+use Rattle.std.proofs.Common.{◌≡◌, ℕ, ◌<◌, length, set, sym, refl, ap, ◌∙◌, subst, arith, length-set}
 use Rattle.model.specs.System.{machines}
 use Rattle.model.specs.declared.rule.Action.TheVariants.{Send}
 use Rattle.abstraction.specs.Meaning.{Good}
 use Rattle.checker.proofs.Deciding.{judged_inside, entry_is, appends_as}
 use Rattle.checker.specs.Held.{record_in}
 use Rattle.checker.specs.SetFile.{claim_of, records_of, SetReady}
-use Rattle.closed_sets.specs.Codes.{moved_in, sent_in, Appends}
-use Rattle.closed_sets.specs.Records.{Record, record_of, code_in, local_in}
+use Rattle.closed_sets.specs.Codes.{moved_in, sent_in}
+use Rattle.closed_sets.specs.Records.{record_of, code_in}
 use Rattle.table.proofs.Parts.{machines_long}
 use Rattle.table.specs.Layout.{events_n, machines_n}
 use Rattle.table.specs.SystemOf.{system_of}

@@ -1,8 +1,8 @@
-use Rattle.std.proofs.Common.{◌≡◌, ℕ, ◌+◌, ◌<◌, ◌≤◌, List, length, Some, None, Option, sym, refl, ap, ◌∙◌, subst, arith, below_more}
+use Rattle.std.proofs.Common.{◌≡◌, ℕ, Some, None, sym, ap, ◌∙◌, arith, below_more}
 use Rattle.std.specs.List.{slice_get}
 use Rattle.std.proofs.lemmas.Result.{err_from_is_err_and}
 use Rattle.abstraction.proofs.Few.{few}
-use Rattle.abstraction.proofs.Nth.{nth_within, none_some, past}
+use Rattle.abstraction.proofs.Nth.{nth_within, past}
 use Rattle.checker.proofs.Deciding.{entry_is}
 use Rattle.checker.specs.SetFile.{claim_of}
 use Rattle.closed_sets.specs.Judging.{Applies, outside}

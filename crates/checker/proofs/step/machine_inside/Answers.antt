@@ -1,8 +1,7 @@
-use Rattle.std.proofs.Common.{◌≡◌, ℕ, ◌+◌, ◌<◌, ◌≤◌, length, get_or, sym, refl, ap, ◌∙◌, subst, inl, inr, arith}
+use Rattle.std.proofs.Common.{◌≡◌, ℕ, ◌<◌, length, sym, refl, ap, ◌∙◌, subst, inl, inr, arith}
 use Rattle.std.proofs.lemmas.Bool.{cases_lt, cases_eq}
 use Rattle.model.specs.Order.{Nothing}
 use Rattle.model.specs.System.{rule_of}
-use Rattle.model.specs.declared.rule.Rule.{Rule}
 use Rattle.checker.proofs.Deciding.{not_from}
 use Rattle.checker.specs.Held.{record_in}
 use Rattle.checker.specs.Plan.{cell_of, cell_at}

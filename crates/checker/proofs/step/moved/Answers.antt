@@ -1,4 +1,4 @@
-use Rattle.std.proofs.Common.{◌≡◌, length, set, sym, refl, ap, ◌∙◌, subst, arith, length-set}
+use Rattle.std.proofs.Common.{◌≡◌, length, set, ap, ◌∙◌, length-set}
 use Rattle.checker.specs.Held.{record_in}
 use Rattle.checker.specs.SetFile.{claim_of}
 use Rattle.closed_sets.specs.Codes.{moved_in}

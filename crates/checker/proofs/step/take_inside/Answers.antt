@@ -1,10 +1,8 @@
-use Rattle.std.proofs.Common.{◌≡◌, ℕ, Some, Option, sym, refl, ap, ◌∙◌, subst}
+use Rattle.std.proofs.Common.{ℕ, Some, Option, refl, ap, ◌∙◌}
 use Rattle.model.specs.declared.rule.Action.TheVariants.{Take}
 use Rattle.checker.proofs.Deciding.{judged_inside, take_other}
 use Rattle.checker.specs.Held.{record_in}
 use Rattle.checker.specs.SetFile.{claim_of, records_of}
-use Rattle.closed_sets.specs.Records.{Record, record_of, code_in}
-use Rattle.std.specs.List.{slice_get}
 use Rattle.checker.proofs.step.take_inside.Goals as goal
 
 pub returns-then-taken-event : goal.returns-then-taken-event

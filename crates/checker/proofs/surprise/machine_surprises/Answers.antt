@@ -1,7 +1,6 @@
-use Rattle.std.proofs.Common.{◌≡◌, sym, refl, ap, ◌∙◌, subst, arith, below_more}
+use Rattle.std.proofs.Common.{refl, arith, below_more}
 use Rattle.std.proofs.lemmas.Bool.Decides.{not_from_Decides}
-use Rattle.checker.specs.SetFile.{claim_of}
-use Rattle.closed_sets.specs.Judging.{Applies, surprise}
+use Rattle.closed_sets.specs.Judging.{surprise}
 use Rattle.checker.proofs.surprise.machine_surprises.Goals as goal
 
 pub returns-then-lets_surprise : goal.returns-then-lets_surprise

@@ -1,8 +1,7 @@
-use Rattle.std.proofs.Common.{◌≡◌, ◌+◌, ◌++◌, drop, vec_items, sym, ap, ◌∙◌, append-nil}
+use Rattle.std.proofs.Common.{◌+◌, ◌++◌, vec_items, sym, ap, ◌∙◌, append-nil}
 use Rattle.table.specs.SystemOf.{system_of}
 use Rattle.controller.specs.Hosted.{hosted}
 use Rattle.controller.specs.Views.{system_in, state_in}
-use Rattle.rehearsal.specs.Replies.{loaded}
 use Rattle.rehearsal.proofs.Turning.{loaded_more, loaded_end}
 use Rattle.rehearsal.proofs.rehearsal.perform.Goals as goal
 

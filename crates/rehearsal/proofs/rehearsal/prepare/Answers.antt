@@ -1,4 +1,4 @@
-use Rattle.std.proofs.Common.{◌≡◌, ◌+◌, min, ◌++◌, length, vec_items, sym, ap, ◌∙◌, arith}
+use Rattle.std.proofs.Common.{◌+◌, min, ◌++◌, length, vec_items, sym, ap, ◌∙◌, arith}
 use Rattle.model.specs.State.{start}
 use Rattle.rehearsal.proofs.Turning.{held_more, held_call, held_end, loaded_end}
 use Rattle.rehearsal.proofs.rehearsal.prepare.Goals as goal

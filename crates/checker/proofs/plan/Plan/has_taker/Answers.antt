@@ -1,9 +1,8 @@
-use Rattle.std.proofs.Common.{◌≡◌, ℕ, ◌<◌, length, get_or, sym, ◌∙◌, subst, arith}
+use Rattle.std.proofs.Common.{◌<◌, get_or, ◌∙◌, subst, arith}
 use Rattle.model.specs.Bad.{Takes}
 use Rattle.model.specs.declared.rule.Rule.{Rule}
 use Rattle.table.proofs.Parts.{rules_long}
 use Rattle.table.specs.Layout.{rules_n}
-use Rattle.table.specs.SystemOf.{system_of}
 use Rattle.checker.proofs.plan.Plan.has_taker.Goals as goal
 
 pub returns-then-r-self : goal.returns-then-r-self
