@@ -1,4 +1,4 @@
-// The check under the layers that a set's header names, and its entry for C.
+// The check under the layers that a set's header names, and its verdict as one number.
 #![tactic(auto)]
 
 ghost use Rattle.std.specs.Prelude.{◌≡◌, ℕ};
@@ -65,9 +65,8 @@ fn pack(fault: Fault) -> u64
         + (fault.c << 48)
 }
 
-// The verdict as one number, for C: 0 for a pass, else the packed fault.
-#[unsafe(no_mangle)]
-pub extern "C" fn queue_check(table: &[u8], set: &[u8]) -> u64
+// The verdict as one number, as C asks for it: 0 for a pass, else the packed fault.
+pub fn queue_check(table: &[u8], set: &[u8]) -> u64
     ensures { Answers table.now set.now (claim_under table.now set.now (named set.now)) result }
 {
     match check_files(table, set) {
