@@ -1,6 +1,6 @@
 -- Lists of different numbers: a list without a number, an element more, and how many fit below a bound. Assumes nothing.
 use Rattle.std.proofs.Common.{◌≡◌, ℕ, zero, suc, ◌≤◌, Bool, true, false, cond, eqb, ◌⊎◌, List, [], ◌∷◌, ◌++◌, length, sym, refl, ap, ◌∙◌, subst, inl, inr, arith}
-use Rattle.std.specs.List.{AllByRecursion as All}
+use Rattle.std.specs.List.{AllByRecursion}
 use Rattle.std.proofs.ByRecursion.{All-push}
 use Rattle.std.proofs.lemmas.Bool.{cases_eq, eq-eqb, ne_eqb}
 use Rattle.model.specs.Queue.{Over, Waits}
@@ -16,9 +16,9 @@ pub without_absent : (e : ℕ) (L : List ℕ) → Absent e L → without e L ≡
 without_absent e [] a = refl
 without_absent e (f ∷ L) a = without_other e f L a.0 ∙ ap (λ (R : List ℕ). f ∷ R) (without_absent e L a.1)
 
-pub without_all : (P : ℕ → Type 0) (e : ℕ) (L : List ℕ) → All P L → All P (without e L)
+pub without_all : (P : ℕ → Type 0) (e : ℕ) (L : List ℕ) → AllByRecursion P L → AllByRecursion P (without e L)
 without_all P e [] a = tt
-without_all P e (f ∷ L) a = elim (eqb f e) as (λ b. All P (cond b (without e L) (f ∷ without e L))) [ true ↦ without_all P e L a.1 | false ↦ (a.0, without_all P e L a.1) ]
+without_all P e (f ∷ L) a = elim (eqb f e) as (λ b. AllByRecursion P (cond b (without e L) (f ∷ without e L))) [ true ↦ without_all P e L a.1 | false ↦ (a.0, without_all P e L a.1) ]
 
 pub absent_without : (e : ℕ) (L : List ℕ) → Absent e (without e L)
 absent_without e [] = tt

@@ -1,13 +1,13 @@
 -- An abstraction has at most 2 ^ 63 removals of a code, since they are different pairs of bounded numbers. Assumes nothing.
 use Rattle.std.proofs.Common.{◌≡◌, ℕ, suc, ◌+◌, ◌*◌, ◌^◌, ◌<◌, ◌≤◌, List, [], ◌∷◌, map, length, Some, refl, ap, ◌∙◌, subst, lt_of_lt_of_le, arith, pow_mono}
 use lib.ListN.{length-map}
-use Rattle.std.specs.List.{slice_get, AllByRecursion as All}
+use Rattle.std.specs.List.{slice_get, AllByRecursion}
 use Rattle.abstraction.specs.Meaning.{Meaning}
 use Rattle.abstraction.specs.Distinct.{Apart, Below}
 use Rattle.abstraction.proofs.Nth.{nth_map_back, pair_same}
 use Rattle.abstraction.proofs.Distinct.{few_below}
 
-all_from_nth : {X : Type 0} (P : X → Type 0) (xs : List X) → ((k : ℕ) (x : X) → slice_get xs k ≡ Some x → P x) → All P xs
+all_from_nth : {X : Type 0} (P : X → Type 0) (xs : List X) → ((k : ℕ) (x : X) → slice_get xs k ≡ Some x → P x) → AllByRecursion P xs
 all_from_nth P [] f = tt
 all_from_nth P (x ∷ xs) f = (f 0 x refl, all_from_nth P xs (λ k. f (suc k)))
 

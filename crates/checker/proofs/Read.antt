@@ -1,6 +1,6 @@
 -- The parts of the system in a table, and of the records in a set. Assumes nothing.
 use Rattle.std.proofs.Common.{◌≡◌, ℕ, zero, suc, ◌+◌, ◌*◌, ◌<◌, ◌≤◌, Bool, true, false, cond, List, [], ◌∷◌, map, length, get_or, is_some, Some, None, Decides, filter, Option, sym, refl, ap, ◌∙◌, subst, inl, inr, arith}
-use Rattle.std.specs.List.{AllByRecursion as All, range_with_len}
+use Rattle.std.specs.List.{AllByRecursion, range_with_len}
 use Rattle.std.proofs.lemmas.Bool.{cases_Bool, cases_eq}
 use Rattle.checker.specs.Inner.{Found, ListedIn}
 use Rattle.checker.specs.SetFile.{record_at, records_of, long_at}
@@ -25,17 +25,17 @@ pub decides_false : {P : Type 0} → (P → ⊥) → Decides false P
 decides_false n = ((λ e. let z : ◌≡◌ {A = ℕ} 0 1 = cc in absurd (omega arith)), (λ p. absurd (n p)))
 
 -- what holds of all that is made of the numbers that pass a test holds of each
-pub kept_all : {X : Type 0} (P : X → Type 0) (f : ℕ → X) (t : ℕ → Bool) (a n : ℕ) → All P (map f (filter t (range_with_len a n))) → (j : ℕ) → a ≤ j → j < a + n → t j ≡ true → P (f j)
+pub kept_all : {X : Type 0} (P : X → Type 0) (f : ℕ → X) (t : ℕ → Bool) (a n : ℕ) → AllByRecursion P (map f (filter t (range_with_len a n))) → (j : ℕ) → a ≤ j → j < a + n → t j ≡ true → P (f j)
 kept_all P f t a zero all j l u e = absurd (omega arith)
 kept_all P f t a (suc n) all j l u e = elim (cases_eq j a) [
-  | inl same ↦ subst (λ (z : ℕ). P (f z)) (sym same) (subst (λ (b : Bool). All P (map f (cond b (a ∷ filter t (range_with_len (a + 1) n)) (filter t (range_with_len (a + 1) n))))) (ap t (sym same) ∙ e) all).0
+  | inl same ↦ subst (λ (z : ℕ). P (f z)) (sym same) (subst (λ (b : Bool). AllByRecursion P (map f (cond b (a ∷ filter t (range_with_len (a + 1) n)) (filter t (range_with_len (a + 1) n))))) (ap t (sym same) ∙ e) all).0
   | inr ne ↦ kept_all P f t (a + 1) n (rest all) j (omega arith) (omega arith) e
 ]
   where
-    rest : All P (map f (cond (t a) (a ∷ filter t (range_with_len (a + 1) n)) (filter t (range_with_len (a + 1) n)))) → All P (map f (filter t (range_with_len (a + 1) n)))
+    rest : AllByRecursion P (map f (cond (t a) (a ∷ filter t (range_with_len (a + 1) n)) (filter t (range_with_len (a + 1) n)))) → AllByRecursion P (map f (filter t (range_with_len (a + 1) n)))
     rest h = elim (cases_Bool (t a)) [
-      | inl e ↦ (subst (λ (b : Bool). All P (map f (cond b (a ∷ filter t (range_with_len (a + 1) n)) (filter t (range_with_len (a + 1) n))))) e h).1
-      | inr e ↦ subst (λ (b : Bool). All P (map f (cond b (a ∷ filter t (range_with_len (a + 1) n)) (filter t (range_with_len (a + 1) n))))) e h
+      | inl e ↦ (subst (λ (b : Bool). AllByRecursion P (map f (cond b (a ∷ filter t (range_with_len (a + 1) n)) (filter t (range_with_len (a + 1) n))))) e h).1
+      | inr e ↦ subst (λ (b : Bool). AllByRecursion P (map f (cond b (a ∷ filter t (range_with_len (a + 1) n)) (filter t (range_with_len (a + 1) n))))) e h
     ]
 
 -- a record that is found is listed, and one that is not is not

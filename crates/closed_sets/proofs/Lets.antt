@@ -1,6 +1,6 @@
 -- What a record lets happen: surprise and patterns. Assumes nothing.
 use Rattle.std.proofs.Common.{◌≡◌, ℕ, suc, ◌<◌, ◌≤◌, ◌≢◌, List, [], ◌∷◌, length, set, sym, refl, ap, ◌∙◌, subst, arith, get_or-set_other}
-use Rattle.std.specs.List.{AllByRecursion as All}
+use Rattle.std.specs.List.{AllByRecursion}
 use Rattle.model.specs.Bad.{NoTake, LocalIs, Met, Surprised}
 use Rattle.model.specs.Queue.{Covers, Begins}
 use Rattle.model.specs.State.{State, local_at, queue_at, IsState}
@@ -17,7 +17,7 @@ abbrev Ordered : ℕ → ℕ → List Condition → Type 0
 Ordered n low [] = Unit {0}
 Ordered n low (c ∷ cs) = (low ≤ c.machine) × (c.machine < n) × Ordered n (suc c.machine) cs
 
-ordered : (S : System) (low : ℕ) (p : List Condition) → All (ConditionFits S) p → Rise low p → Ordered (machines S) low p
+ordered : (S : System) (low : ℕ) (p : List Condition) → AllByRecursion (ConditionFits S) p → Rise low p → Ordered (machines S) low p
 ordered S low [] fit rise = tt
 ordered S low (c ∷ p) (f, fs) (l, rise) = (l, f.machine, ordered S (suc c.machine) p fs rise)
 

@@ -1,6 +1,6 @@
 -- What a record lets happen, by its codes alone. Assumes nothing.
 use Rattle.std.specs.Prelude.{◌≡◌, ℕ, ◌<◌, List, [], ◌∷◌, ◌++◌, Some, slice_set}
-use Rattle.std.specs.List.{slice_get, AllByRecursion as All}
+use Rattle.std.specs.List.{slice_get, AllByRecursion}
 use Rattle.model.specs.Bad.{NoTake, LocalIs, Surprised, Met}
 use Rattle.model.specs.Queue.{Over}
 use Rattle.model.specs.System.{machines, RuleFits, PatternFits}
@@ -25,7 +25,7 @@ abbrev pub MayHold : Claim → Record → Condition → Type 0
 MayHold T r c = LocalIs c.local (local_in r c.machine) × AllowedIn T r c.machine c.front c.mask
 
 abbrev pub MayMeet : Claim → Record → List Condition → Type 0
-MayMeet T r p = All (MayHold T r) p
+MayMeet T r p = AllByRecursion (MayHold T r) p
 
 -- the record with the machine of the rule in its new local state, with code d
 abbrev pub moved_in : Rule → ℕ → Record → Record

@@ -1,7 +1,7 @@
 -- Whole runs of the reference controller. Assumes nothing.
 use Rattle.std.proofs.Common.{◌≡◌, ℕ, suc, ◌+◌, ◌<◌, min, Bool, cond, List, [], ◌∷◌, ◌++◌, length, get_or, take, drop, set, Some, None, Ok, Err, Option, sym, refl, ap, ◌∙◌, subst, inl, inr, append_assoc, arith, length-take, length-take-le}
 use lib.Seq.{take-append_seam}
-use Rattle.std.specs.List.{AllByRecursion as All}
+use Rattle.std.specs.List.{AllByRecursion}
 use Rattle.std.proofs.lemmas.List.{take_more, drop_more, take_all}
 use Rattle.std.proofs.lemmas.Bool.{cases_lt, lt-ltb, le-ltb}
 use Rattle.model.specs.declared.fault.Refusal.{Refusal}
@@ -33,14 +33,14 @@ module _ (S : System) (cap : ℕ) where
   reach_next s p Reset = begin
   reach_next s p (Look i k) = p
 
-  reach_states : (cs : List Call) (s : State) → Reaches S s → All (Reaches S) (states S cap s cs)
+  reach_states : (cs : List Call) (s : State) → Reaches S s → AllByRecursion (Reaches S) (states S cap s cs)
   reach_states [] s p = (p, tt)
   reach_states (c ∷ cs) s p = (p, reach_states cs (next S cap s c) (reach_next s p c))
 
   pub runs_reach : (cs : List Call) → RunReaches S cap cs
   runs_reach cs = reach_states cs (start S) begin
 
-  not_bad : (GoesWrong S → ⊥) → (ts : List State) → All (Reaches S) ts → All (λ (s : State). Bad S s → ⊥) ts
+  not_bad : (GoesWrong S → ⊥) → (ts : List State) → AllByRecursion (Reaches S) ts → AllByRecursion (λ (s : State). Bad S s → ⊥) ts
   not_bad never [] h = tt
   not_bad never (t ∷ ts) h = ((λ bad. never (t, h.0, bad)), not_bad never ts h.1)
 

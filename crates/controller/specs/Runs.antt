@@ -1,6 +1,6 @@
 -- Whole runs of a controller, as a relation, and the laws of their states. Assumes nothing.
 use Rattle.std.specs.Prelude.{◌≡◌, ℕ, ◌<◌, ◌≤◌, List, [], ◌∷◌, length}
-use Rattle.std.specs.List.{slice_get, AllByRecursion as All}
+use Rattle.std.specs.List.{slice_get, AllByRecursion}
 use Rattle.model.specs.declared.fault.Fault.{Fault}
 use Rattle.model.specs.declared.fault.Refusal.TheVariants.{NoMachine}
 use Rattle.model.specs.Order.{FirstFault}
@@ -41,11 +41,11 @@ pub record RunsAnswered (S : System) (cap : ℕ) : Type 0 where
 
 -- before the first call and after each one the state is one that the system reaches by its own steps
 abbrev pub RunReaches : System → ℕ → List Call → Type 0
-RunReaches S cap calls = All (Reaches S) (states S cap (start S) calls)
+RunReaches S cap calls = AllByRecursion (Reaches S) (states S cap (start S) calls)
 
 -- before the first call and after each one no machine is surprised and no forbidden pattern is met
 abbrev pub RunSafe : System → ℕ → List Call → Type 0
-RunSafe S cap calls = All (λ (s : State). Bad S s → ⊥) (states S cap (start S) calls)
+RunSafe S cap calls = AllByRecursion (λ (s : State). Bad S s → ⊥) (states S cap (start S) calls)
 
 -- the same of every capacity from 1 to 32 and every list of calls, some turned down, some repeated, in any number and order
 abbrev pub RunsSafe : System → Type 0

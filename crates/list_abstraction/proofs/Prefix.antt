@@ -1,7 +1,7 @@
 -- The front of a code that has been read. Assumes nothing.
 use Rattle.std.proofs.Common.{◌≡◌, ℕ, ◌+◌, ◌*◌, ◌^◌, ◌<◌, ◌≤◌, List, [], ◌∷◌, ◌++◌, length, sym, refl, ap, ◌∙◌, subst, inl, inr, arith}
 use lib.Bits.{bit_or}
-use Rattle.std.specs.List.{AllByRecursion as All}
+use Rattle.std.specs.List.{AllByRecursion}
 use Rattle.std.proofs.lemmas.Nat.{or_lt, pow_below}
 use Rattle.std.proofs.lemmas.List.{length_push}
 use Rattle.std.proofs.ByRecursion.{All-push}
@@ -45,12 +45,12 @@ onto_split m r (e ∷ P) (f ∷ L) few b a p =
     let (R, c, q, s) = onto_split m r P L few b.1 a.1 y in
     (R, c, ap (λ (z : ℕ). z ∷ L) x ∙ ap (λ (X : List ℕ). e ∷ X) q, s)
 
-all_at : (P : ℕ → Type 0) (L : List ℕ) (e : ℕ) → All P L → Waits e L → P e
+all_at : (P : ℕ → Type 0) (L : List ℕ) (e : ℕ) → AllByRecursion P L → Waits e L → P e
 all_at P [] e a h = absurd h
 all_at P (f ∷ L) e a (inl p) = subst P (sym p) a.0
 all_at P (f ∷ L) e a (inr h) = all_at P L e a.1 h
 
-all_middle : (P : ℕ → Type 0) (L : List ℕ) (f : ℕ) (R : List ℕ) → All P (L ++ f ∷ R) → P f
+all_middle : (P : ℕ → Type 0) (L : List ℕ) (f : ℕ) (R : List ℕ) → AllByRecursion P (L ++ f ∷ R) → P f
 all_middle P [] f R a = a.0
 all_middle P (e ∷ L) f R a = all_middle P L f R a.1
 

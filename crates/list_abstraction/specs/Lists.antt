@@ -1,7 +1,7 @@
 -- First occurrences: lists of different events. Assumes nothing.
 use Rattle.std.specs.Prelude.{◌≡◌, ℕ, zero, suc, ◌+◌, ◌-◌, ◌*◌, ◌/◌, ◌%◌, ◌^◌, ◌<◌, ◌≤◌, Bool, true, false, cond, not, ◌&&◌, ◌||◌, ◌⊎◌, List, [], ◌∷◌, ◌++◌, length, Some, ◌==◌, ◌≢◌, nat_lt, refl}
 use Rattle.std.proofs.Common.{sym, ap, ◌∙◌, subst, append-nil, inl, inr, arith}
-use Rattle.std.specs.List.{slice_get, AllByRecursion as All}
+use Rattle.std.specs.List.{slice_get, AllByRecursion}
 use Rattle.std.proofs.lemmas.Bool.{cases_Bool, cases_eq, eqb-true, eqb-false, eq-eqb, ne_eqb, and_parts, and_from, lt-ltb, ltb-true, not-true, not_from_false, or_cases, or_parts, or_right, or_from, false≢true}
 use Rattle.model.specs.Queue.{Over, Waits}
 use Rattle.abstraction.proofs.Nth.{none_some, some_same, nth_map, nth_map_back}
@@ -141,13 +141,13 @@ insertions_without e (f ∷ L) (suc k) F a h =
     let (R, n, q) = nth_map_back (λ (R : List ℕ). f ∷ R) (insertions e L) k F h in
     ap (without e) (sym q) ∙ without_other e f R a.0 ∙ ap (λ (X : List ℕ). f ∷ X) (insertions_without e L k R a.1 n)
 
-pub insertions_all : (P : ℕ → Type 0) (e : ℕ) (L : List ℕ) (k : ℕ) (F : List ℕ) → P e → All P L → slice_get (insertions e L) k ≡ Some F → All P F
-insertions_all P e [] zero F x a h = subst (All P) (some_same (e ∷ []) F h) (x, tt)
+pub insertions_all : (P : ℕ → Type 0) (e : ℕ) (L : List ℕ) (k : ℕ) (F : List ℕ) → P e → AllByRecursion P L → slice_get (insertions e L) k ≡ Some F → AllByRecursion P F
+insertions_all P e [] zero F x a h = subst (AllByRecursion P) (some_same (e ∷ []) F h) (x, tt)
 insertions_all P e [] (suc k) F x a h = absurd (none_some F h)
-insertions_all P e (f ∷ L) zero F x a h = subst (All P) (some_same (e ∷ f ∷ L) F h) (x, a)
+insertions_all P e (f ∷ L) zero F x a h = subst (AllByRecursion P) (some_same (e ∷ f ∷ L) F h) (x, a)
 insertions_all P e (f ∷ L) (suc k) F x a h =
     let (R, n, q) = nth_map_back (λ (R : List ℕ). f ∷ R) (insertions e L) k F h in
-    subst (All P) q (a.0, insertions_all P e L k R x a.1 n)
+    subst (AllByRecursion P) q (a.0, insertions_all P e L k R x a.1 n)
 
 pub insertions_apart : (e : ℕ) (L : List ℕ) (k : ℕ) (F : List ℕ) → Absent e L → Apart L → slice_get (insertions e L) k ≡ Some F → Apart F
 insertions_apart e [] zero F a d h = subst Apart (some_same (e ∷ []) F h) (tt, tt)

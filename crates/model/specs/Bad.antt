@@ -1,6 +1,6 @@
 -- Bad states: a machine is surprised, or a forbidden pattern is met. Assumes nothing.
 use Rattle.std.specs.Prelude.{◌≡◌, ℕ, ◌<◌, ◌⊎◌, List, ◌∷◌, length, Some, None, Option}
-use Rattle.std.specs.List.{AllByRecursion as All}
+use Rattle.std.specs.List.{AllByRecursion}
 use Rattle.model.specs.declared.rule.Action.TheVariants.{Take}
 use Rattle.model.specs.declared.rule.Rule.{Rule}
 use Rattle.model.specs.declared.pattern.Condition.{Condition}
@@ -37,7 +37,7 @@ Holds s c =
 
 -- a pattern is met when all its conditions hold
 abbrev pub Met : State → List Condition → Type 0
-Met s p = All (Holds s) p
+Met s p = AllByRecursion (Holds s) p
 
 abbrev pub Bad : System → State → Type 0
 Bad S s =

@@ -1,6 +1,6 @@
 -- Systems: machines with local states, rules and forbidden patterns. Assumes nothing.
 use Rattle.std.specs.Prelude.{ℕ, suc, ◌^◌, ◌<◌, ◌≤◌, List, [], ◌∷◌, length, Some, None, Option, slice_index, slice_index_or}
-use Rattle.std.specs.List.{AllByRecursion as All}
+use Rattle.std.specs.List.{AllByRecursion}
 use Rattle.model.specs.declared.queue.Front.{Front}
 use Rattle.model.specs.declared.queue.Front.TheVariants.{Any, Empty, Event}
 use Rattle.model.specs.declared.rule.Action.{Action}
@@ -64,7 +64,7 @@ Rise low (c ∷ cs) = (low ≤ c.machine) × Rise (suc c.machine) cs
 -- a pattern has a condition, and at most one for a machine
 pub record PatternFits (S : System) (p : List Condition) : Type 0 where
   pub some : 1 ≤ length p
-  pub fit : All (ConditionFits S) p
+  pub fit : AllByRecursion (ConditionFits S) p
   pub rise : Rise 0 p
 
 pub record WellFormed (S : System) : Type 0 where

@@ -1,6 +1,6 @@
 -- The numbers that pass a test, and what is made of each. Assumes nothing.
 use Rattle.std.proofs.Common.{◌≡◌, ℕ, zero, suc, ◌+◌, ◌<◌, ◌≤◌, Bool, true, cond, List, ◌∷◌, map, length, filter, sym, subst, inl, inr, arith}
-use Rattle.std.specs.List.{range_with_len, AllByRecursion as All}
+use Rattle.std.specs.List.{range_with_len, AllByRecursion}
 use Rattle.std.proofs.lemmas.Bool.{cases_Bool, cases_eq}
 use Rattle.model.specs.declared.pattern.Condition.{Condition}
 use Rattle.model.specs.System.{Rise}
@@ -17,11 +17,11 @@ by_first {X} f t P a n kept left =
     ]
 
 -- what holds of each number that passes
-pub all_kept : {X : Type 0} (P : X → Type 0) (f : ℕ → X) (t : ℕ → Bool) (a n : ℕ) → ((j : ℕ) → a ≤ j → j < a + n → t j ≡ true → P (f j)) → All P (map f (filter t (range_with_len a n)))
+pub all_kept : {X : Type 0} (P : X → Type 0) (f : ℕ → X) (t : ℕ → Bool) (a n : ℕ) → ((j : ℕ) → a ≤ j → j < a + n → t j ≡ true → P (f j)) → AllByRecursion P (map f (filter t (range_with_len a n)))
 all_kept P f t a zero h = tt
 all_kept P f t a (suc n) h =
     let rest = all_kept P f t (a + 1) n (λ j l u. h j (omega arith) (omega arith)) in
-    by_first f t (All P) a n (λ e. (h a (omega arith) (omega arith) e, rest)) rest
+    by_first f t (AllByRecursion P) a n (λ e. (h a (omega arith) (omega arith) e, rest)) rest
 
 -- a number that passes is kept
 pub some_kept : {X : Type 0} (f : ℕ → X) (t : ℕ → Bool) (a n j : ℕ) → a ≤ j → j < a + n → t j ≡ true → 1 ≤ length (map f (filter t (range_with_len a n)))
