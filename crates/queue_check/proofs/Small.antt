@@ -120,12 +120,12 @@ under_few k L f = elim (cases_eq k 0) [
 pub named_few : (set : List ℕ) → Few 18 (named set)
 named_few set = under_few (word_at set 4) (of_kind (word_at set 2)) (kind_few (word_at set 2))
 
-module _ (table set : List ℕ) (low-table : (i : ℕ) → byte_at table i < 256) (low-set : (i : ℕ) → byte_at set i < 256) where
+module _ (table set : List ℕ) (low_table : (i : ℕ) → byte_at table i < 256) (low_set : (i : ℕ) → byte_at set i < 256) where
   table_word : (i : ℕ) → word_at table i < 65536
-  table_word i = omega (arith, low-table i, low-table (i + 1))
+  table_word i = omega (arith, low_table i, low_table (i + 1))
 
   set_word : (i : ℕ) → word_at set i < 65536
-  set_word i = omega (arith, low-set i, low-set (i + 1))
+  set_word i = omega (arith, low_set i, low_set (i + 1))
 
   place : (n : Refusal) (a : ℕ) → a < 2 ^ 24 → Fits (fault_at n a)
   place n a h = record { a = h; b = omega arith; c = omega arith }
@@ -133,7 +133,7 @@ module _ (table set : List ℕ) (low-table : (i : ℕ) → byte_at table i < 256
   few_patterns : pattern_count table < 65536
   few_patterns = elim (cases_eq (pattern_lines_n table) 0) [
     | inl z ↦ (let none : pattern_count table ≡ 0 = simp (eq-eqb (pattern_lines_n table) 0 z) in omega arith)
-    | inr ne ↦ (let count : pattern_count table ≡ number_of table (pattern_lines_n table - 1) + 1 = simp (ne_eqb (pattern_lines_n table) 0 ne) in omega (arith, low-table (pattern_offset table (pattern_lines_n table - 1))))
+    | inr ne ↦ (let count : pattern_count table ≡ number_of table (pattern_lines_n table - 1) + 1 = simp (ne_eqb (pattern_lines_n table) 0 ne) in omega (arith, low_table (pattern_offset table (pattern_lines_n table - 1))))
   ]
 
   outcomes_few : (r : Record) (x : Rule) (a : Action) → outcomes (claim_under table set (named set)) r x a ≤ 18
