@@ -106,6 +106,32 @@ fn kept_by<A: QueueAbstraction>(
     None
 }
 
+// Whether the record lets pattern `n` be met. A line that keeps it from being met is asked first next time.
+fn lets_meet<A: QueueAbstraction>(
+    table: &Table<'_>,
+    set: &StateSet<'_>,
+    abstraction: &A,
+    k: u16,
+    plan: &Plan,
+    hints: &mut Hints,
+    held: &Held,
+    n: u16,
+) -> bool
+    requires ready { Ready table.now.bytes.now }
+    requires planned { Planned table.now.bytes.now plan.now }
+    requires judging { Judging (claim_of table.now.bytes.now set.now.bytes.now (A.bits abstraction.now) (A.code abstraction.now) (A.removals abstraction.now)) (machines_n table.now.bytes.now) k held.now }
+    requires below { n < pattern_count table.now.bytes.now }
+    ensures { Decides result (Applies (claim_of table.now.bytes.now set.now.bytes.now (A.bits abstraction.now) (A.code abstraction.now) (A.removals abstraction.now)) (met k n)) }
+{
+    match kept_by(table, set, abstraction, k, plan, held, n, hints.line(n)) {
+        Some(line) => {
+            hints.kept_by(n, line);
+            false
+        }
+        None => true,
+    }
+}
+
 // The first pattern that can be met.
 pub(crate) fn check_patterns<A: QueueAbstraction>(
     table: &Table<'_>,
@@ -122,16 +148,13 @@ pub(crate) fn check_patterns<A: QueueAbstraction>(
     ensures { Judged (claim_of table.now.bytes.now set.now.bytes.now (A.bits abstraction.now) (A.code abstraction.now) (A.removals abstraction.now)) (patterns (claim_of table.now.bytes.now set.now.bytes.now (A.bits abstraction.now) (A.code abstraction.now) (A.removals abstraction.now)) k) result }
 {
     for n in 0..table.pattern_count() {
-        match kept_by(table, set, abstraction, k, plan, held, n, hints.line(n)) {
-            Some(line) => hints.kept_by(n, line),
-            None => {
-                return Err(Fault {
-                    number: Refusal::PatternMet,
-                    a: k as u32,
-                    b: n,
-                    c: 0,
-                });
-            }
+        if lets_meet(table, set, abstraction, k, plan, hints, held, n) {
+            return Err(Fault {
+                number: Refusal::PatternMet,
+                a: k as u32,
+                b: n,
+                c: 0,
+            });
         }
     }
     Ok(())

@@ -68,7 +68,7 @@ impl<'a> StateSet<'a> {
         requires ready { SetReady target.now.machines self.now.bytes.now }
         ensures { Decides result (ListedIn (records_of target.now.machines self.now.bytes.now) (record_in target.now)) }
     {
-        self.find(target, 0).is_some()
+        listed(self.bytes, target)
     }
 
     // Where the record stands in the set, if it does; `near` is where it is looked for first.
@@ -117,6 +117,29 @@ fn load(set: &[u8], n: u8, k: u16) -> Held
         };
     }
     held
+}
+
+// A byte of a local state and a code.
+fn byte_in(local: u8, number: u64, place: u16) -> u8
+    requires { place < 9 }
+    ensures is { result ≡ byte_in (local, number) place }
+    ensures small { number < 2 ^ 64 }
+{
+    if place == 0 {
+        return local;
+    }
+    ((number >> (8 * (place - 1))) % 256) as u8
+}
+
+// Byte `t` of a record.
+fn byte_of(target: &Held, t: u16) -> u8
+    requires few { target.now.machines ≤ 6 }
+    requires below { t < 9 * target.now.machines }
+    ensures is { result ≡ byte_of (record_in target.now) t }
+    ensures small { code_in (record_in target.now) (t / 9) < 2 ^ 64 }
+{
+    let entry = entry_at(target, (t / 9) as u8);
+    byte_in(entry.local, entry.code, t % 9)
 }
 
 // How the nine bytes at `at` compare with a local state and a code, as byte strings.
@@ -221,6 +244,16 @@ fn place(set: &[u8], target: &Held, near: u16) -> Option<u16>
         }
     }
     None
+}
+
+// Whether the record stands in the set.
+fn listed(set: &[u8], target: &Held) -> bool
+    requires few { target.now.machines ≤ 6 }
+    requires sized { length (record_in target.now) ≡ target.now.machines }
+    requires ready { SetReady target.now.machines set.now }
+    ensures { Decides result (ListedIn (records_of target.now.machines set.now) (record_in target.now)) }
+{
+    place(set, target, 0).is_some()
 }
 
 // Whether the record stands above the one before.

@@ -94,20 +94,20 @@ set_here (x ∷ A) e a R = ap (λ (r : List Answer). x ∷ r) (set_here A e a R)
 
 -- a run, one call on: from controllers that keep system S and capacity cap
 module _ (S S1 : System) (cap cap1 : ℕ) (s s1 : State) (cs : List Call) (E out : List Answer) (i : ℕ) (d : Call)
-    (eS : S1 ≡ S) (ec : cap1 ≡ cap) (hc : i < length cs) (hE : i < length E)
+    (same_system : S1 ≡ S) (ec : cap1 ≡ cap) (hc : i < length cs) (room : i < length E)
     (hs : s1 ≡ after S cap s (take i cs)) (ho : out ≡ answers_to S cap s (take i cs) ++ drop i E) where
   pub state_more : (t : State) → t ≡ next S1 cap1 s1 (get_or cs i d) → t ≡ after S cap s (take (i + 1) cs)
   state_more t h =
-      h ∙ ap (λ (x : System). next x cap1 s1 (get_or cs i d)) eS ∙ ap (λ (n : ℕ). next S n s1 (get_or cs i d)) ec ∙ ap (λ (u : State). next S cap u (get_or cs i d)) hs
+      h ∙ ap (λ (x : System). next x cap1 s1 (get_or cs i d)) same_system ∙ ap (λ (n : ℕ). next S n s1 (get_or cs i d)) ec ∙ ap (λ (u : State). next S cap u (get_or cs i d)) hs
       ∙ sym (after_push S cap (take i cs) s (get_or cs i d)) ∙ ap (after S cap s) (sym (take_more cs i d hc))
 
   pub answers_more : (e a : Answer) → a ≡ answer S1 cap1 s1 (get_or cs i d) → set out i a ≡ answers_to S cap s (take (i + 1) cs) ++ drop (i + 1) E
   answers_more e a h =
       let A = answers_to S cap s (take i cs) in
       let is : a ≡ answer S cap (after S cap s (take i cs)) (get_or cs i d) =
-      h ∙ ap (λ (x : System). answer x cap1 s1 (get_or cs i d)) eS ∙ ap (λ (n : ℕ). answer S n s1 (get_or cs i d)) ec ∙ ap (λ (u : State). answer S cap u (get_or cs i d)) hs in
+      h ∙ ap (λ (x : System). answer x cap1 s1 (get_or cs i d)) same_system ∙ ap (λ (n : ℕ). answer S n s1 (get_or cs i d)) ec ∙ ap (λ (u : State). answer S cap u (get_or cs i d)) hs in
       let long : length A ≡ i = length_answers S cap (take i cs) s ∙ length-take-le i cs (omega arith) in
-      ap (λ (o : List Answer). set o i a) (ho ∙ ap (λ (r : List Answer). A ++ r) (drop_more E i e hE))
+      ap (λ (o : List Answer). set o i a) (ho ∙ ap (λ (r : List Answer). A ++ r) (drop_more E i e room))
       ∙ ap (λ (n : ℕ). set (A ++ (get_or E i e ∷ drop (i + 1) E)) n a) (sym long)
       ∙ set_here A (get_or E i e) a (drop (i + 1) E)
       ∙ sym (append_assoc A (a ∷ []) (drop (i + 1) E))
@@ -130,9 +130,9 @@ module _ (cs : List Call) (E : List Answer) (n : ℕ) (is : n ≡ min (length cs
       ∙ ap (λ (k : ℕ). answers_to S cap s (made cs E) ++ drop k E) (length_made ∙ sym (length_answers S cap (made cs E) s))
 
 -- a controller that was loaded with system S at a capacity runs as the reference does from the start
-module _ (S0 S : System) (cap0 cap : ℕ) (s : State) (eS : S0 ≡ S) (ec : cap0 ≡ cap) (es : s ≡ start S0) (cs : List Call) where
+module _ (S0 S : System) (cap0 cap : ℕ) (s : State) (same_system : S0 ≡ S) (ec : cap0 ≡ cap) (es : s ≡ start S0) (cs : List Call) where
   pub loaded_answers : answers_to S0 cap0 s cs ≡ answers_to S cap (start S) cs
-  loaded_answers = ap (λ (u : State). answers_to S0 cap0 u cs) es ∙ ap (λ (n : ℕ). answers_to S0 n (start S0) cs) ec ∙ ap (λ (x : System). answers_to x cap (start x) cs) eS
+  loaded_answers = ap (λ (u : State). answers_to S0 cap0 u cs) es ∙ ap (λ (n : ℕ). answers_to S0 n (start S0) cs) ec ∙ ap (λ (x : System). answers_to x cap (start x) cs) same_system
 
   pub loaded_after : after S0 cap0 s cs ≡ after S cap (start S) cs
-  loaded_after = ap (λ (u : State). after S0 cap0 u cs) es ∙ ap (λ (n : ℕ). after S0 n (start S0) cs) ec ∙ ap (λ (x : System). after x cap (start x) cs) eS
+  loaded_after = ap (λ (u : State). after S0 cap0 u cs) es ∙ ap (λ (n : ℕ). after S0 n (start S0) cs) ec ∙ ap (λ (x : System). after x cap (start x) cs) same_system
