@@ -2,15 +2,11 @@
 ghost use Rattle.model.specs.Laws.{RuleDetermines, ReachedIsState};
 
 // A rule makes at most one state of another.
-pub fn rule_determines() -> u8
+pub fn rule_determines()
     ensures { RuleDetermines }
-{
-    0
-}
+{}
 
 // Every state that a well-formed system reaches has a local state and a queue of its events for each machine.
-pub fn reached_is_state() -> u8
+pub fn reached_is_state()
     ensures { ReachedIsState }
-{
-    0
-}
+{}
