@@ -1,4 +1,5 @@
 // Where the parts of a table file lie: a header, then machine lines, rules and pattern lines.
+ghost use Rattle.table.specs.Kinds.{IsKind};
 
 // Offsets of the counts in the header.
 pub const MACHINE_COUNT: usize = 2;
@@ -16,12 +17,32 @@ pub const RULE_LINE: usize = 6;
 
 pub const PATTERN_LINE: usize = 6;
 
-// The kinds of rule.
-pub const LOCAL: u8 = 0;
+// The kinds of rule, each by the byte that stands for it.
+#[derive(Clone, Copy, PartialEq, Eq, Debug)]
+pub enum Kind {
+    Local = 0,
+    Take = 1,
+    Send = 2,
+}
 
-pub const TAKE: u8 = 1;
+// A byte that stands for no kind of rule.
+#[derive(Clone, Copy, PartialEq, Eq, Debug)]
+pub struct UnknownKind(pub u8);
 
-pub const SEND: u8 = 2;
+impl TryFrom<u8> for Kind {
+    type Error = UnknownKind;
+
+    ghost try_from_gives = { IsKind };
+
+    fn try_from(byte: u8) -> Result<Kind, UnknownKind> {
+        match byte {
+            0 => Ok(Kind::Local),
+            1 => Ok(Kind::Take),
+            2 => Ok(Kind::Send),
+            _ => Err(UnknownKind(byte)),
+        }
+    }
+}
 
 // What a pattern line has in place of a front event or a local state.
 pub const EMPTY_FRONT: u8 = 254;

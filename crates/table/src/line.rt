@@ -3,7 +3,7 @@ ghost use Rattle.std.specs.Prelude.{◌≡◌};
 ghost use Rattle.table.specs.Lines.{rule_at, front_of, local_of, pattern_line_at, action_of};
 
 use crate::bytes::byte;
-use crate::layout::{ANY, EMPTY_FRONT, LOCAL, TAKE};
+use crate::layout::{ANY, EMPTY_FRONT, Kind};
 use model::pattern::Condition;
 use model::queue::Front;
 use model::rule::{Action, Rule};
@@ -19,9 +19,9 @@ pub struct PatternLine {
 fn action(kind: u8, event: u8, target: u8) -> Action
     ensures { result ≡ action_of kind event target }
 {
-    match kind {
-        LOCAL => Action::Local,
-        TAKE => Action::Take { event },
+    match Kind::try_from(kind) {
+        Ok(Kind::Local) => Action::Local,
+        Ok(Kind::Take) => Action::Take { event },
         _ => Action::Send { event, target },
     }
 }

@@ -3,9 +3,7 @@ ghost use Rattle.std.specs.Prelude.{◌≡◌, ℕ, ◌^◌, ◌<◌, ◌≤◌,
 ghost use Rattle.table.specs.Findings.{GoodMachine, GoodAction, GoodRuleAt, Follows, GoodConditionAt, GoodPatternAt};
 
 use crate::bytes::{byte, word};
-use crate::layout::{
-    ANY, EMPTY_FRONT, EVENT_COUNT, LOCAL, MACHINE_COUNT, PATTERN_LINE, SEND, TAKE,
-};
+use crate::layout::{ANY, EMPTY_FRONT, EVENT_COUNT, Kind, MACHINE_COUNT, PATTERN_LINE};
 use crate::view::machine_offset;
 
 const MOST_LOCAL_STATES: u8 = 32;
@@ -24,11 +22,11 @@ fn action_good(bytes: &[u8], kind: u8, event: u8, target: u8) -> bool
     ensures { Decides result (GoodAction bytes.now kind event target) }
 {
     let event_exists = u16::from(event) < word(bytes, EVENT_COUNT);
-    match kind {
-        LOCAL => event == 0 && target == 0,
-        TAKE => event_exists && target == 0,
-        SEND => event_exists && u16::from(target) < word(bytes, MACHINE_COUNT),
-        _ => false,
+    match Kind::try_from(kind) {
+        Ok(Kind::Local) => event == 0 && target == 0,
+        Ok(Kind::Take) => event_exists && target == 0,
+        Ok(Kind::Send) => event_exists && u16::from(target) < word(bytes, MACHINE_COUNT),
+        Err(_) => false,
     }
 }
 
