@@ -39,3 +39,6 @@ module _ (bs : List ℕ) where
 
   pub pattern_at : (p : ℕ) → p < pattern_count bs → pattern_of (system_of bs) p ≡ conditions_of bs p
   pattern_at p h = get_or-map-range_with_len (conditions_of bs) 0 (pattern_count bs) p p [] h (omega arith)
+
+-- the accessors' sets: an element of a list that is counted out, and the lengths of such lists
+pub ruleset counted = (nth_counted, nth_counted_past, machines_long, rules_long, lines_long, patterns_long)

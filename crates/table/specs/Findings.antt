@@ -12,12 +12,12 @@ use Rattle.table.specs.Layout.{machines_n, events_n, rules_n, pattern_lines_n, r
 abbrev pub bounds : List ℕ → List (ℕ × ℕ)
 bounds bs = (1, 1) ∷ (1, 6) ∷ (1, 8) ∷ (0, 256) ∷ (0, 64) ∷ (16, 16) ∷ (rules_at bs, rules_at bs) ∷ (patterns_at bs, patterns_at bs) ∷ []
 
--- a machine line: the number of local states, then 0
+-- a machine line at offset o: the number of local states, then 0
+abbrev pub GoodMachineAt : List ℕ → ℕ → Type 0
+GoodMachineAt bs o = (1 ≤ byte_at bs o) × (byte_at bs o ≤ 32) × (byte_at bs (o + 1) ≡ 0)
+
 abbrev pub GoodMachine : List ℕ → ℕ → Type 0
-GoodMachine bs i =
-    (1 ≤ byte_at bs (machine_offset i))
-    × (byte_at bs (machine_offset i) ≤ 32)
-    × (byte_at bs (machine_offset i + 1) ≡ 0)
+GoodMachine bs i = GoodMachineAt bs (machine_offset i)
 
 -- the number of local states that the line of a machine gives
 abbrev pub states_at : List ℕ → ℕ → ℕ

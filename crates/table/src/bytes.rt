@@ -6,7 +6,7 @@ ghost use Rattle.table.specs.Bytes.{byte_at, word_at};
 pub fn byte(bytes: &[u8], at: usize) -> u8
     ensures { result ≡ byte_at bytes.now at }
 {
-    if at < bytes.len() { bytes[at] } else { 0 }
+    bytes.get(at).copied().unwrap_or(0)
 }
 
 // The two bytes at `at`, the low byte first.

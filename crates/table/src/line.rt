@@ -1,5 +1,6 @@
 // The lines of a table.
-ghost use Rattle.std.specs.Prelude.{◌≡◌};
+ghost use Rattle.std.specs.Prelude.{◌≡◌, ◌+◌};
+ghost use Rattle.table.specs.Bytes.{byte_at};
 ghost use Rattle.table.specs.Lines.{rule_at, front_of, local_of, pattern_line_at, action_of};
 
 use crate::bytes::byte;
@@ -15,6 +16,49 @@ pub struct PatternLine {
     pub condition: Condition,
 }
 
+// A line of a table: the bytes of the file, and where in them the line begins.
+#[derive(Clone, Copy)]
+pub(crate) struct Line<'a> {
+    pub(crate) bytes: &'a [u8],
+    pub(crate) offset: u32,
+}
+
+impl Line<'_> {
+    // The byte at place `i` of the line.
+    pub(crate) fn byte(&self, i: u8) -> u8
+        ensures { result ≡ byte_at self.now.bytes.now (self.now.offset + i) }
+    {
+        byte(self.bytes, self.offset as usize + usize::from(i))
+    }
+
+    // The rule in the line.
+    pub(crate) fn rule(&self) -> Rule
+        ensures { result ≡ rule_at self.now.bytes.now self.now.offset }
+    {
+        Rule {
+            machine: self.byte(1),
+            from: self.byte(2),
+            to: self.byte(3),
+            action: action(self.byte(0), self.byte(4), self.byte(5)),
+        }
+    }
+
+    // The pattern's number and the condition in the line.
+    pub(crate) fn pattern_line(&self) -> PatternLine
+        ensures { result ≡ pattern_line_at self.now.bytes.now self.now.offset }
+    {
+        PatternLine {
+            number: self.byte(0),
+            condition: Condition {
+                machine: self.byte(1),
+                local: local(self.byte(2)),
+                front: front(self.byte(3)),
+                mask: self.byte(4),
+            },
+        }
+    }
+}
+
 // The action that a kind, an event and a target stand for.
 fn action(kind: u8, event: u8, target: u8) -> Action
     ensures { result ≡ action_of kind event target }
@@ -23,19 +67,6 @@ fn action(kind: u8, event: u8, target: u8) -> Action
         Ok(Kind::Local) => Action::Local,
         Ok(Kind::Take) => Action::Take { event },
         _ => Action::Send { event, target },
-    }
-}
-
-// The rule in the line at `offset`.
-pub(crate) fn rule_at(bytes: &[u8], offset: u32) -> Rule
-    ensures { result ≡ rule_at bytes.now offset }
-{
-    let at = offset as usize;
-    Rule {
-        machine: byte(bytes, at + 1),
-        from: byte(bytes, at + 2),
-        to: byte(bytes, at + 3),
-        action: action(byte(bytes, at), byte(bytes, at + 4), byte(bytes, at + 5)),
     }
 }
 
@@ -54,21 +85,5 @@ fn front(byte: u8) -> Front
         ANY => Front::Any,
         EMPTY_FRONT => Front::Empty,
         event => Front::Event(event),
-    }
-}
-
-// The pattern's number and the condition in the line at `offset`.
-pub(crate) fn pattern_line_at(bytes: &[u8], offset: u32) -> PatternLine
-    ensures { result ≡ pattern_line_at bytes.now offset }
-{
-    let at = offset as usize;
-    PatternLine {
-        number: byte(bytes, at),
-        condition: Condition {
-            machine: byte(bytes, at + 1),
-            local: local(byte(bytes, at + 2)),
-            front: front(byte(bytes, at + 3)),
-            mask: byte(bytes, at + 4),
-        },
     }
 }

@@ -9,7 +9,6 @@ ghost use Rattle.table.specs.Reading.{Reads, Refuses, NoneListed, FirstListed, N
 ghost use Rattle.table.specs.SystemOf.{system_of};
 
 use crate::header::{HEADER_LENGTH, check_fields, fault_at};
-use crate::lines_good::{machine_line_good, pattern_line_good, rule_line_good};
 use crate::view::{Table, machine_offset};
 use model::fault::{Fault, Refusal};
 
@@ -57,10 +56,11 @@ impl<'a> Table<'a> {
     fn check_machine_line(&self, machine: u16) -> Result<(), Fault>
         ensures { Answered (Applies self.now.bytes.now) (numbers self.now.bytes.now) (one (machine_line machine)) result }
     {
-        if machine_line_good(self.bytes(), machine) {
+        let line = self.line_at(machine_offset(machine));
+        if line.machine_good() {
             Ok(())
         } else {
-            Err(fault_at(Refusal::TableLine, machine_offset(machine)))
+            Err(fault_at(Refusal::TableLine, line.offset))
         }
     }
 
@@ -76,11 +76,11 @@ impl<'a> Table<'a> {
     fn check_rule_line(&self, rule: u16) -> Result<(), Fault>
         ensures { Answered (Applies self.now.bytes.now) (numbers self.now.bytes.now) (one (rule_line rule)) result }
     {
-        let offset = self.rule_offset(rule);
-        if rule_line_good(self.bytes(), offset) {
+        let line = self.line_at(self.rule_offset(rule));
+        if line.rule_good() {
             Ok(())
         } else {
-            Err(fault_at(Refusal::TableLine, offset))
+            Err(fault_at(Refusal::TableLine, line.offset))
         }
     }
 
@@ -96,11 +96,11 @@ impl<'a> Table<'a> {
     fn check_pattern_line(&self, line: u16) -> Result<(), Fault>
         ensures { Answered (Applies self.now.bytes.now) (numbers self.now.bytes.now) (one (pattern_line line)) result }
     {
-        let offset = self.pattern_offset(line);
-        if pattern_line_good(self.bytes(), line, offset) {
+        let at = self.line_at(self.pattern_offset(line));
+        if at.pattern_good(line) {
             Ok(())
         } else {
-            Err(fault_at(Refusal::TableLine, offset))
+            Err(fault_at(Refusal::TableLine, at.offset))
         }
     }
 

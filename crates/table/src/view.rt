@@ -6,13 +6,13 @@ ghost use Rattle.table.specs.Bytes.{byte_at};
 ghost use Rattle.table.specs.Layout.{machine_offset, rule_offset, pattern_offset};
 ghost use Rattle.table.specs.SystemOf.{system_of, pattern_lines_of};
 
-use crate::bytes::{byte, word};
+use crate::bytes::word;
 use crate::header::HEADER_LENGTH;
 use crate::layout::{
     EVENT_COUNT, MACHINE_COUNT, MACHINE_LINE, PATTERN_LINE, PATTERN_LINE_COUNT, RULE_COUNT,
     RULE_LINE,
 };
-use crate::line::{PatternLine, pattern_line_at, rule_at};
+use crate::line::{Line, PatternLine};
 use model::rule::Rule;
 
 #[derive(Clone, Copy)]
@@ -36,6 +36,7 @@ impl<'a> Table<'a> {
     }
 
     // The number of machines.
+    #[tactic(auto, using(crate::proofs::Parts::counted))]
     pub fn machine_count(&self) -> u16
         ensures { result ≡ machines (system_of self.now.bytes.now) }
     {
@@ -50,6 +51,7 @@ impl<'a> Table<'a> {
     }
 
     // The number of rules.
+    #[tactic(auto, using(crate::proofs::Parts::counted))]
     pub fn rule_count(&self) -> u16
         ensures { result ≡ length (system_of self.now.bytes.now).rules }
     {
@@ -57,6 +59,7 @@ impl<'a> Table<'a> {
     }
 
     // The number of pattern lines.
+    #[tactic(auto, using(crate::proofs::Parts::counted))]
     pub fn pattern_line_count(&self) -> u16
         ensures { result ≡ length (pattern_lines_of self.now.bytes.now) }
     {
@@ -64,6 +67,7 @@ impl<'a> Table<'a> {
     }
 
     // The number of patterns: the last line belongs to the last one.
+    #[tactic(auto, using(crate::proofs::Parts::counted))]
     pub fn pattern_count(&self) -> u16
         ensures { result ≡ length (system_of self.now.bytes.now).patterns }
     {
@@ -71,37 +75,51 @@ impl<'a> Table<'a> {
         if lines == 0 {
             return 0;
         }
-        u16::from(byte(self.bytes, self.pattern_offset(lines - 1) as usize)) + 1
+        u16::from(self.line_at(self.pattern_offset(lines - 1)).byte(0)) + 1
     }
 
     // The number of local states of a machine, if there is such a machine.
+    #[tactic(auto, using(crate::proofs::Parts::counted))]
     pub fn local_states(&self, machine: u16) -> Option<u8>
         ensures { result ≡ slice_get (system_of self.now.bytes.now).states machine }
     {
         if machine >= self.machine_count() {
             return None;
         }
-        Some(byte(self.bytes, machine_offset(machine) as usize))
+        Some(self.line_at(machine_offset(machine)).byte(0))
     }
 
     // The rule of that number, if there is one.
+    #[tactic(auto, using(crate::proofs::Parts::counted))]
     pub fn rule(&self, number: u16) -> Option<Rule>
         ensures { result ≡ slice_get (system_of self.now.bytes.now).rules number }
     {
         if number >= self.rule_count() {
             return None;
         }
-        Some(rule_at(self.bytes, self.rule_offset(number)))
+        Some(self.line_at(self.rule_offset(number)).rule())
     }
 
     // The pattern line of that number, if there is one.
+    #[tactic(auto, using(crate::proofs::Parts::counted))]
     pub fn pattern_line(&self, number: u16) -> Option<PatternLine>
         ensures { result ≡ slice_get (pattern_lines_of self.now.bytes.now) number }
     {
         if number >= self.pattern_line_count() {
             return None;
         }
-        Some(pattern_line_at(self.bytes, self.pattern_offset(number)))
+        Some(self.line_at(self.pattern_offset(number)).pattern_line())
+    }
+
+    // The line that begins at an offset.
+    pub(crate) fn line_at(&self, offset: u32) -> Line<'a>
+        ensures bytes { result.bytes.now ≡ self.now.bytes.now }
+        ensures offset { result.offset ≡ offset }
+    {
+        Line {
+            bytes: self.bytes,
+            offset,
+        }
     }
 
     // Where a rule's line begins.
