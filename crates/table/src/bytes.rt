@@ -13,8 +13,6 @@ pub fn byte(bytes: &[u8], at: usize) -> u8
 pub fn word(bytes: &[u8], at: usize) -> u16
     ensures { result ≡ word_at bytes.now at }
 {
-    if at >= bytes.len() {
-        return 0;
-    }
-    u16::from_le_bytes([bytes[at], byte(bytes, at + 1)])
+    // A place past the last possible one stays past it.
+    u16::from_le_bytes([byte(bytes, at), byte(bytes, at.saturating_add(1))])
 }

@@ -1,5 +1,5 @@
 // The header of a file: eight fields of two bytes, each with a least and a greatest value.
-ghost use Rattle.std.specs.Prelude.{◌≡◌, ℕ, ◌*◌, ◌<◌, Decides};
+ghost use Rattle.std.specs.Prelude.{◌≡◌, ℕ, ◌*◌, ◌<◌, ◌⊎◌, Decides};
 ghost use Rattle.model.specs.Order.{Answered};
 ghost use Rattle.table.specs.Header.{OutOfBounds, fault_at, fields};
 
@@ -22,22 +22,25 @@ pub fn fault_at(number: Refusal, place: u32) -> Fault
     }
 }
 
-// Whether a field lies outside its bounds.
-fn out_of_bounds(bytes: &[u8], bounds: &[(u32, u32); 8], field: usize) -> bool
-    requires { field < 8 }
-    ensures { Decides result (OutOfBounds bytes.now bounds.now field) }
+// Whether a value lies outside its bounds.
+fn out_of_bounds(value: u16, bounds: (u32, u32)) -> bool
+    ensures { Decides result ((value < bounds.0) ⊎ (bounds.1 < value)) }
 {
-    let value = u32::from(word(bytes, 2 * field));
-    let (least, greatest) = bounds[field];
+    let value = u32::from(value);
+    let (least, greatest) = bounds;
     value < least || greatest < value
 }
 
 // The lowest field outside its bounds, as a refusal with the field's offset.
-pub fn check_fields(bytes: &[u8], bounds: &[(u32, u32); 8], number: Refusal) -> Result<(), Fault>
+pub fn check_fields(
+    bytes: &[u8],
+    bounds: &[(u32, u32); FIELDS],
+    number: Refusal,
+) -> Result<(), Fault>
     ensures { Answered (OutOfBounds bytes.now bounds.now) (λ i. fault_at number (2 * i)) fields result }
 {
-    for field in 0..FIELDS {
-        if out_of_bounds(bytes, bounds, field) {
+    for (field, within) in bounds.iter().enumerate() {
+        if out_of_bounds(word(bytes, 2 * field), *within) {
             return Err(fault_at(number, 2 * field as u32));
         }
     }

@@ -8,13 +8,13 @@ ghost use Rattle.table.specs.Findings.{bounds, Applies, numbers, field, machine_
 ghost use Rattle.table.specs.Reading.{Reads, Refuses, NoneListed, FirstListed, Numbered};
 ghost use Rattle.table.specs.SystemOf.{system_of};
 
-use crate::header::{HEADER_LENGTH, check_fields, fault_at};
+use crate::header::{FIELDS, HEADER_LENGTH, check_fields, fault_at};
 use crate::view::{Table, machine_offset};
 use model::fault::{Fault, Refusal};
 
 impl<'a> Table<'a> {
     // The least and the greatest value of each header field: edition, the four counts, the three offsets.
-    fn header_bounds(&self) -> [(u32, u32); 8]
+    fn header_bounds(&self) -> [(u32, u32); FIELDS]
         ensures { result ≡ bounds self.now.bytes.now }
     {
         let machines_at = machine_offset(0);
