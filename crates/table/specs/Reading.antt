@@ -1,11 +1,21 @@
 -- What reading a table answers. Assumes nothing.
-use Rattle.std.specs.Prelude.{◌≡◌, ℕ, ◌+◌, ◌<◌, ◌⊎◌, List}
+use Rattle.std.specs.Prelude.{◌≡◌, ℕ, ◌+◌, ◌<◌, ◌⊎◌, List, Ok, Err, Result, IfOk}
+use Rattle.std.specs.Result.{IfErr}
 use Rattle.model.specs.declared.fault.Fault.{Fault}
-use Rattle.model.specs.Order.{Nothing, FirstFault}
+use Rattle.model.specs.Order.{Order, Nothing, FirstFault, Answered}
 use Rattle.model.specs.Laid.{laid, NoneIn, FirstIn}
 use Rattle.table.specs.Layout.{pattern_lines_n}
 use Rattle.table.specs.SystemOf.{number_of}
 use Rattle.table.specs.Findings.{Finding, Applies, numbers, order}
+
+-- what a search through an order of findings answers
+abbrev pub Finds : List ℕ → Order Finding → Result (Unit {0}) Fault → Type 0
+Finds bs o r = Answered (Applies bs) (numbers bs) o r
+
+-- the first error among n answers, where A says what may be answered for each
+pub record FirstErr (n : ℕ) (A : ℕ → Result (Unit {0}) Fault → Type 0) (r : Result (Unit {0}) Fault) : Type 0 where
+  pub none : IfOk r (λ _. (i : ℕ) → i < n → A i (Ok tt))
+  pub first : IfErr r (λ f. (i : ℕ) × (i < n) × A i (Err f) × ((j : ℕ) → j < i → A j (Ok tt)))
 
 -- nothing is wrong with the table
 abbrev pub Reads : List ℕ → Type 0

@@ -1,20 +1,35 @@
 // Whether the lines of a table keep their rules.
-ghost use Rattle.std.specs.Prelude.{◌≡◌, ℕ, ◌+◌, ◌^◌, ◌<◌, ◌≤◌, Decides};
+ghost use Rattle.std.specs.Prelude.{◌≡◌, ℕ, ◌+◌, ◌^◌, ◌<◌, ◌≤◌, true, false, Decides, MatchResult};
+ghost use Rattle.model.specs.declared.fault.Refusal.TheVariants.{TableLine};
 ghost use Rattle.model.specs.System.{FrontFits};
 ghost use Rattle.table.specs.Bytes.{byte_at};
+ghost use Rattle.table.specs.Header.{fault_at};
 ghost use Rattle.table.specs.Layout.{machines_n};
 ghost use Rattle.table.specs.Findings.{states_at, GoodMachineAt, GoodAction, GoodRuleAt, Follows, GoodConditionAt, GoodPatternAt};
 
 use crate::bytes::{byte, word};
+use crate::header::fault_at;
 use crate::layout::{EVENT_COUNT, Kind, MACHINE_COUNT, PATTERN_LINE};
 use crate::line::Line;
 use crate::view::machine_offset;
+use model::fault::{Fault, Refusal};
 use model::mask::fits;
 use model::queue::Front;
 
 const MOST_LOCAL_STATES: u8 = 32;
 
 impl Line<'_> {
+    // A refusal with the line's offset, unless the line is good.
+    pub(crate) fn verdict(&self, good: bool) -> Result<(), Fault>
+        ensures { MatchResult result (λ _. good ≡ true) (λ f. (good ≡ false) × (f ≡ fault_at TableLine self.now.offset)) }
+    {
+        if good {
+            Ok(())
+        } else {
+            Err(fault_at(Refusal::TableLine, self.offset))
+        }
+    }
+
     // Whether a machine line gives 1 to 32 local states, then 0.
     pub(crate) fn machine_good(&self) -> bool
         ensures { Decides result (GoodMachineAt self.now.bytes.now self.now.offset) }

@@ -1,16 +1,27 @@
 // Reading a table: the first thing wrong with its bytes, or a view of them.
 ghost use Rattle.std.specs.Prelude.{◌≡◌, ℕ, ◌<◌, MatchResult, OnOk};
 ghost use Rattle.model.specs.declared.fault.Fault.{Fault as TheFault};
-ghost use Rattle.model.specs.Order.{Answered, one, under};
+ghost use Rattle.model.specs.Order.{one, under};
 ghost use Rattle.model.specs.System.{WellFormed};
 ghost use Rattle.table.specs.Header.{fields};
-ghost use Rattle.table.specs.Findings.{bounds, Applies, numbers, field, machine_line, rule_line, pattern_line, header_order, machine_order, rule_order, pattern_order, order};
-ghost use Rattle.table.specs.Reading.{Reads, Refuses, NoneListed, FirstListed, Numbered};
+ghost use Rattle.table.specs.Findings.{bounds, field, machine_line, rule_line, pattern_line, header_order, machine_order, rule_order, pattern_order, order};
+ghost use Rattle.table.specs.Reading.{Finds, FirstErr, Reads, Refuses, NoneListed, FirstListed, Numbered};
 ghost use Rattle.table.specs.SystemOf.{system_of};
 
 use crate::header::{FIELDS, HEADER_LENGTH, check_fields, fault_at};
 use crate::view::{Table, machine_offset};
 use model::fault::{Fault, Refusal};
+
+// The first of `count` lines that `check` refuses.
+fn check_lines<C: Fn(u16) -> Result<(), Fault>>(count: u16, check: C) -> Result<(), Fault>
+    requires { C.IsAlwaysCallable check }
+    ensures { FirstErr count (C.post check) result }
+{
+    for line in 0..count {
+        check(line)?;
+    }
+    Ok(())
+}
 
 impl<'a> Table<'a> {
     // The least and the greatest value of each header field: edition, the four counts, the three offsets.
@@ -33,14 +44,14 @@ impl<'a> Table<'a> {
     }
 
     fn check_header_fields(&self) -> Result<(), Fault>
-        ensures { Answered (Applies self.now.bytes.now) (numbers self.now.bytes.now) (under field fields) result }
+        ensures { Finds self.now.bytes.now (under field fields) result }
     {
         check_fields(self.bytes(), &self.header_bounds(), Refusal::TableHeader)
     }
 
     // The header, and the length that it gives.
     fn check_header(&self) -> Result<(), Fault>
-        ensures { Answered (Applies self.now.bytes.now) (numbers self.now.bytes.now) header_order result }
+        ensures { Finds self.now.bytes.now header_order result }
     {
         let bytes = self.bytes();
         if bytes.len() < HEADER_LENGTH {
@@ -53,69 +64,51 @@ impl<'a> Table<'a> {
         Ok(())
     }
 
-    fn check_machine_line(&self, machine: u16) -> Result<(), Fault>
-        ensures { Answered (Applies self.now.bytes.now) (numbers self.now.bytes.now) (one (machine_line machine)) result }
-    {
-        let line = self.line_at(machine_offset(machine));
-        if line.machine_good() {
-            Ok(())
-        } else {
-            Err(fault_at(Refusal::TableLine, line.offset))
-        }
-    }
-
     fn check_machine_lines(&self) -> Result<(), Fault>
-        ensures { Answered (Applies self.now.bytes.now) (numbers self.now.bytes.now) (machine_order self.now.bytes.now) result }
+        ensures { Finds self.now.bytes.now (machine_order self.now.bytes.now) result }
     {
-        for machine in 0..self.machine_count() {
-            self.check_machine_line(machine)?;
-        }
-        Ok(())
-    }
-
-    fn check_rule_line(&self, rule: u16) -> Result<(), Fault>
-        ensures { Answered (Applies self.now.bytes.now) (numbers self.now.bytes.now) (one (rule_line rule)) result }
-    {
-        let line = self.line_at(self.rule_offset(rule));
-        if line.rule_good() {
-            Ok(())
-        } else {
-            Err(fault_at(Refusal::TableLine, line.offset))
-        }
+        check_lines(
+            self.machine_count(),
+            |machine: u16| -> Result<(), Fault>
+                ensures { Finds self.entry.now.bytes.now (one (machine_line machine)) result }
+            {
+                let line = self.line_at(machine_offset(machine));
+                line.verdict(line.machine_good())
+            },
+        )
     }
 
     fn check_rule_lines(&self) -> Result<(), Fault>
-        ensures { Answered (Applies self.now.bytes.now) (numbers self.now.bytes.now) (rule_order self.now.bytes.now) result }
+        ensures { Finds self.now.bytes.now (rule_order self.now.bytes.now) result }
     {
-        for rule in 0..self.rule_count() {
-            self.check_rule_line(rule)?;
-        }
-        Ok(())
-    }
-
-    fn check_pattern_line(&self, line: u16) -> Result<(), Fault>
-        ensures { Answered (Applies self.now.bytes.now) (numbers self.now.bytes.now) (one (pattern_line line)) result }
-    {
-        let at = self.line_at(self.pattern_offset(line));
-        if at.pattern_good(line) {
-            Ok(())
-        } else {
-            Err(fault_at(Refusal::TableLine, at.offset))
-        }
+        check_lines(
+            self.rule_count(),
+            |rule: u16| -> Result<(), Fault>
+                ensures { Finds self.entry.now.bytes.now (one (rule_line rule)) result }
+            {
+                let line = self.line_at(self.rule_offset(rule));
+                line.verdict(line.rule_good())
+            },
+        )
     }
 
     fn check_pattern_lines(&self) -> Result<(), Fault>
-        ensures { Answered (Applies self.now.bytes.now) (numbers self.now.bytes.now) (pattern_order self.now.bytes.now) result }
+        ensures { Finds self.now.bytes.now (pattern_order self.now.bytes.now) result }
     {
-        for line in 0..self.pattern_line_count() {
-            self.check_pattern_line(line)?;
-        }
-        Ok(())
+        check_lines(
+            self.pattern_line_count(),
+            |number: u16| -> Result<(), Fault>
+                ensures { Finds self.entry.now.bytes.now (one (pattern_line number)) result }
+            {
+                let line = self.line_at(self.pattern_offset(number));
+                line.verdict(line.pattern_good(number))
+            },
+        )
     }
 
     // The first thing wrong, in the order of the file.
     fn check(&self) -> Result<(), Fault>
-        ensures { Answered (Applies self.now.bytes.now) (numbers self.now.bytes.now) (order self.now.bytes.now) result }
+        ensures { Finds self.now.bytes.now (order self.now.bytes.now) result }
     {
         self.check_header()?;
         self.check_machine_lines()?;
