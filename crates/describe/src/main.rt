@@ -1,12 +1,10 @@
 // Prints how the file `table` reads, or why it is refused.
 #![tactic(auto)]
 
-use files::read_at_most;
+use files::{MOST_TABLE_BYTES, read_at_most};
 use std::io;
 use table::view::Table;
 use text::InWords;
-
-const MOST_TABLE_BYTES: u64 = 4096;
 
 fn main(rt: HostRuntime) -> io::Result<()> {
     let bytes = read_at_most(&rt, "table", MOST_TABLE_BYTES);

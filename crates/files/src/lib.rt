@@ -8,6 +8,11 @@ use std::io;
 use std::io::Read;
 use std::rt::Files;
 
+// The most bytes of a table and of a state set that the programs read.
+pub const MOST_TABLE_BYTES: u64 = 4_096;
+
+pub const MOST_SET_BYTES: u64 = 65_536;
+
 // The first bytes of a file, one more than `most` at the most.
 fn first_bytes<R: Files + AllocGlobal>(rt: &R, path: &str, most: u64) -> io::Result<Vec<u8>> {
     let mut bytes = Vec::new(rt.alloc());

@@ -1,13 +1,9 @@
 // Checks the files `table` and `set`, prints the verdict and, under a pass, the reply to each line of the file `calls`.
 #![tactic(auto)]
 
-use files::read_at_most;
+use files::{MOST_SET_BYTES, MOST_TABLE_BYTES, read_at_most};
 use rehearsal::rehearsal::rehearse_files;
 use std::io;
-
-const MOST_TABLE_BYTES: u64 = 4_096;
-
-const MOST_SET_BYTES: u64 = 65_536;
 
 const MOST_CALLS_BYTES: u64 = 16_777_216;
 

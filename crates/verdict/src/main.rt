@@ -1,13 +1,9 @@
 // Checks the files `table` and `set`, and prints `pass` or the refusal.
 #![tactic(auto)]
 
-use files::read_at_most;
+use files::{MOST_SET_BYTES, MOST_TABLE_BYTES, read_at_most};
 use queue_check::check_files;
 use std::io;
-
-const MOST_TABLE_BYTES: u64 = 4_096;
-
-const MOST_SET_BYTES: u64 = 65_536;
 
 fn main(rt: HostRuntime) -> io::Result<()> {
     let table = read_at_most(&rt, "table", MOST_TABLE_BYTES);
