@@ -4,7 +4,7 @@ ghost use Rattle.model.specs.Numbers.{number_of, line};
 
 use std::fmt;
 
-#[derive(Clone, Copy)]
+#[derive(Clone, Copy, PartialEq, Eq, Debug)]
 pub enum Refusal {
     TableLength = 1,
     TableHeader = 2,
@@ -26,7 +26,7 @@ pub enum Refusal {
     NoMachine = 18,
 }
 
-#[derive(Clone, Copy)]
+#[derive(Clone, Copy, PartialEq, Eq, Debug)]
 pub struct Fault {
     pub number: Refusal,
     pub a: u32,

@@ -1,7 +1,7 @@
 // A condition of a forbidden pattern: what it asks of one machine.
 use crate::queue::Front;
 
-#[derive(Clone, Copy)]
+#[derive(Clone, Copy, PartialEq, Eq, Debug)]
 pub struct Condition {
     pub machine: u8,
     // None: any local state

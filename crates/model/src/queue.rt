@@ -1,6 +1,6 @@
 // What can be asked of the front of a queue.
 
-#[derive(Clone, Copy)]
+#[derive(Clone, Copy, PartialEq, Eq, Debug)]
 pub enum Front {
     Any,
     Empty,
