@@ -50,6 +50,7 @@ impl<'a> Table<'a> {
     }
 
     // The header, and the length that it gives.
+    #[tactic(auto, using(model::proofs::Findings::answered_first, model::proofs::Findings::answered_after, crate::proofs::Parts::counted))]
     fn check_header(&self) -> Result<(), Fault>
         ensures { Finds self.now.bytes.now header_order result }
     {
@@ -107,6 +108,7 @@ impl<'a> Table<'a> {
     }
 
     // The first thing wrong, in the order of the file.
+    #[tactic(auto, using(model::proofs::Findings::answered_after))]
     fn check(&self) -> Result<(), Fault>
         ensures { Finds self.now.bytes.now (order self.now.bytes.now) result }
     {

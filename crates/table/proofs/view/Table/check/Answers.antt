@@ -23,13 +23,3 @@ returns-in_err-check_rule_lines c =
     rw (e.1, e.2) (answered_after A n header_order (machine_order bs then rule_order bs then pattern_order bs) (Err _) c.in_ok-check_header.ensures
     (answered_after A n (machine_order bs) (rule_order bs then pattern_order bs) (Err _) c.in_ok-check_machine_lines.ensures
     (answered_first A n (rule_order bs) (pattern_order bs) _ c.in_err-check_rule_lines.ensures)))
-
-pub returns : goal.returns
-returns c =
-    let bs = c.args.self.now.bytes.now in
-    let A = Applies bs in
-    let n = numbers bs in
-    let r = c.check_pattern_lines.result in
-    answered_after A n header_order (machine_order bs then rule_order bs then pattern_order bs) r c.in_ok-check_header.ensures
-    (answered_after A n (machine_order bs) (rule_order bs then pattern_order bs) r c.in_ok-check_machine_lines.ensures
-    (answered_after A n (rule_order bs) (pattern_order bs) r c.in_ok-check_rule_lines.ensures c.check_pattern_lines.ensures))
