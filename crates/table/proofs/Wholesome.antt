@@ -1,8 +1,6 @@
 -- A table with nothing wrong stands for a well-formed system. Assumes nothing.
-use Rattle.std.proofs.Common.{◌≡◌, ℕ, zero, suc, ◌+◌, ◌-◌, ◌^◌, ◌<◌, ◌≤◌, Bool, cond, eqb, ◌⊎◌, List, length, Some, None, sym, ap, ◌∙◌, subst, inl, inr, arith}
-use Rattle.std.proofs.lemmas.Bool.{cases_lt, cases_eq, eq-eqb, ne_eqb, eqb-true}
-use Rattle.model.specs.declared.queue.Front.TheVariants.{Any, Empty, Event}
-use Rattle.model.specs.declared.rule.Action.TheVariants.{Local, Take, Send}
+use Rattle.std.proofs.Common.{◌≡◌, ℕ, zero, suc, ◌+◌, ◌-◌, ◌<◌, ◌≤◌, Bool, eqb, ◌⊎◌, List, length, sym, ap, ◌∙◌, subst, inl, inr, arith}
+use Rattle.std.proofs.lemmas.Bool.{cases_eq, eq-eqb, ne_eqb, eqb-true}
 use Rattle.model.specs.declared.pattern.Condition.{Condition}
 use Rattle.model.specs.System.{machines, states_of, rule_of, pattern_of, ActionFits, RuleFits, LocalFits, FrontFits, ConditionFits, PatternFits, WellFormed}
 use Rattle.table.specs.Bytes.{byte_at}
@@ -12,116 +10,100 @@ use Rattle.table.specs.SystemOf.{number_of, pattern_count, conditions_of, system
 use Rattle.table.specs.Findings.{bounds, states_at, GoodMachine, GoodAction, GoodRuleAt, Follows, GoodConditionAt, GoodPatternAt}
 use Rattle.table.specs.Header.{OutOfBounds}
 use Rattle.table.specs.Reading.{Reads, Numbered}
-use Rattle.table.proofs.Stable.{part, stable_lt, stable_eq, stable_le}
+use Rattle.table.proofs.Stable.{stable_eq}
 use Rattle.table.proofs.Kept.{all_kept, some_kept, rise_kept}
 use Rattle.table.proofs.Parts.{machines_long, states_at_lem, rules_long, rule_at_lem, patterns_long, pattern_at}
 
 module _ (bs : List ℕ) (reads : Reads bs) where
   pub head : 16 ≤ length bs
-  head = elim (cases_lt (length bs) 16) [ inl lt ↦ absurd (reads.0.0 lt) | inr ge ↦ ge ]
+  head = grind (arith, reads.0.0)
 
   pub as_long : length bs ≡ end_at bs
   as_long = stable_eq (length bs) (end_at bs) reads.0.1.1
 
-  field_in : (i : ℕ) → i < 8 → OutOfBounds bs (bounds bs) i → ⊥
+  pub field_in : (i : ℕ) → i < 8 → OutOfBounds bs (bounds bs) i → ⊥
   field_in = reads.0.1.0
 
   pub some_machines : 1 ≤ machines_n bs
-  some_machines = elim (cases_lt (machines_n bs) 1) [ inl lt ↦ absurd (field_in 1 (omega arith) (inl lt)) | inr ge ↦ ge ]
+  some_machines = grind (arith, field_in 1 (omega arith))
 
   pub few_machines : machines_n bs ≤ 6
-  few_machines = elim (cases_lt 6 (machines_n bs)) [ inl lt ↦ absurd (field_in 1 (omega arith) (inr lt)) | inr ge ↦ ge ]
+  few_machines = grind (arith, field_in 1 (omega arith))
 
   pub some_events : 1 ≤ events_n bs
-  some_events = elim (cases_lt (events_n bs) 1) [ inl lt ↦ absurd (field_in 2 (omega arith) (inl lt)) | inr ge ↦ ge ]
+  some_events = grind (arith, field_in 2 (omega arith))
 
   pub few_events : events_n bs ≤ 8
-  few_events = elim (cases_lt 8 (events_n bs)) [ inl lt ↦ absurd (field_in 2 (omega arith) (inr lt)) | inr ge ↦ ge ]
+  few_events = grind (arith, field_in 2 (omega arith))
 
   pub few_rules : rules_n bs ≤ 256
-  few_rules = elim (cases_lt 256 (rules_n bs)) [ inl lt ↦ absurd (field_in 3 (omega arith) (inr lt)) | inr ge ↦ ge ]
+  few_rules = grind (arith, field_in 3 (omega arith))
 
   pub few_lines : pattern_lines_n bs ≤ 64
-  few_lines = elim (cases_lt 64 (pattern_lines_n bs)) [ inl lt ↦ absurd (field_in 4 (omega arith) (inr lt)) | inr ge ↦ ge ]
+  few_lines = grind (arith, field_in 4 (omega arith))
 
-  machine_good : (i : ℕ) → i < machines_n bs → (GoodMachine bs i → ⊥) → ⊥
-  machine_good = reads.1.0
+  machine_good : (i : ℕ) → i < machines_n bs → GoodMachine bs i
+  machine_good i h = let good = reads.1.0 i h in (grind (arith, good), grind (arith, good), grind (arith, good))
 
-  some_states : (i : ℕ) → i < machines_n bs → 1 ≤ states_at bs i
-  some_states i h = stable_le 1 (states_at bs i) (part (λ q. q.0) (machine_good i h))
+  rule_good : (r : ℕ) → r < rules_n bs → GoodRuleAt bs (rule_offset bs r)
+  rule_good r h = let good = reads.1.1.0 r h in (grind (arith, good), grind (arith, good), grind (arith, good), grind (arith, good))
 
-  few_states : (i : ℕ) → i < machines_n bs → states_at bs i ≤ 32
-  few_states i h = stable_le (states_at bs i) 32 (part (λ q. q.1) (machine_good i h))
+  line_good : (l : ℕ) → l < pattern_lines_n bs → GoodPatternAt bs l (pattern_offset bs l)
+  line_good l h = let good = reads.1.1.1 l h in (grind (arith, good), (grind (arith, good), grind (arith, good), grind (arith, good), grind (arith, good)), grind (arith, good))
 
   -- a local state that a line's machine has is one that the system's machine has
   local_there : (i l : ℕ) → i < machines_n bs → l < states_at bs i → l < states_of (system_of bs) i
-  local_there i l h k = subst (λ (z : ℕ). l < z) (sym (states_at_lem bs i h)) k
+  local_there i l h k = grind (arith, states_at_lem bs i h)
 
   machine_there : (i : ℕ) → i < machines_n bs → i < machines (system_of bs)
   machine_there i h = omega (arith, machines_long bs)
 
-  action_fits : (k e d : ℕ) → ((GoodAction bs k e d → ⊥) → ⊥) → ActionFits (system_of bs) (action_of k e d)
-  action_fits k e d good = elim (cases_eq k 0) [
-    | inl z ↦ subst (λ (b : Bool). ActionFits (system_of bs) (cond b Local (cond (eqb k 1) (Take e) (Send e d)))) (sym (eq-eqb k 0 z)) tt
-    | inr ne ↦ subst (λ (b : Bool). ActionFits (system_of bs) (cond b Local (cond (eqb k 1) (Take e) (Send e d)))) (sym (ne_eqb k 0 ne)) (elim (cases_eq k 1) [
-      | inl z ↦ subst (λ (b : Bool). ActionFits (system_of bs) (cond b (Take e) (Send e d))) (sym (eq-eqb k 1 z)) (event ne)
-      | inr ne1 ↦ subst (λ (b : Bool). ActionFits (system_of bs) (cond b (Take e) (Send e d))) (sym (ne_eqb k 1 ne1)) (event ne, machine_there d (target ne ne1))
-    ])
-  ]
-    where
-      event : (k ≡ 0 → ⊥) → e < events_n bs
-      event ne = stable_lt e (events_n bs) (part (λ q. elim q [ inl x ↦ absurd (ne x.0) | inr y ↦ elim y [ inl x ↦ x.1 | inr x ↦ x.1 ] ]) good)
+  action_fits : (k e d : ℕ) → GoodAction bs k e d → ActionFits (system_of bs) (action_of k e d)
+  action_fits k e d (inl x) = rw x.0 tt
+  action_fits k e d (inr (inl x)) = rw x.0 (x.1)
+  action_fits k e d (inr (inr x)) = rw x.0 (x.1, machine_there d x.2)
 
-      target : (k ≡ 0 → ⊥) → (k ≡ 1 → ⊥) → d < machines_n bs
-      target ne ne1 = stable_lt d (machines_n bs) (part (λ q. elim q [ inl x ↦ absurd (ne x.0) | inr y ↦ elim y [ inl x ↦ absurd (ne1 x.0) | inr x ↦ x.2 ] ]) good)
-
-  rule_fits : (o : ℕ) → ((GoodRuleAt bs o → ⊥) → ⊥) → RuleFits (system_of bs) (rule_at bs o)
+  rule_fits : (o : ℕ) → GoodRuleAt bs o → RuleFits (system_of bs) (rule_at bs o)
   rule_fits o good =
       let m = byte_at bs (o + 1) in
-      let there : m < machines_n bs = stable_lt m (machines_n bs) (part (λ q. q.0) good) in
       record {
-        machine = machine_there m there;
-        from = local_there m (byte_at bs (o + 2)) there (stable_lt (byte_at bs (o + 2)) (states_at bs m) (part (λ q. q.1) good));
-        to = local_there m (byte_at bs (o + 3)) there (stable_lt (byte_at bs (o + 3)) (states_at bs m) (part (λ q. q.2) good));
-        action = action_fits (byte_at bs o) (byte_at bs (o + 4)) (byte_at bs (o + 5)) (part (λ q. q.3) good);
+        machine = machine_there m good.0;
+        from = local_there m (byte_at bs (o + 2)) good.0 good.1;
+        to = local_there m (byte_at bs (o + 3)) good.0 good.2;
+        action = action_fits (byte_at bs o) (byte_at bs (o + 4)) (byte_at bs (o + 5)) good.3;
       }
 
   rules_fit : (r : ℕ) → r < length (system_of bs).rules → RuleFits (system_of bs) (rule_of (system_of bs) r)
   rules_fit r h =
       let l : r < rules_n bs = omega (arith, rules_long bs) in
-      subst (RuleFits (system_of bs)) (sym (rule_at_lem bs r l)) (rule_fits (rule_offset bs r) (reads.1.1.0 r l))
-
-  line_good : (l : ℕ) → l < pattern_lines_n bs → (GoodPatternAt bs l (pattern_offset bs l) → ⊥) → ⊥
-  line_good = reads.1.1.1
+      rw (rule_at_lem bs r l) (rule_fits (rule_offset bs r) (rule_good r l))
 
   pub line_machine : (l : ℕ) → l < pattern_lines_n bs → byte_at bs (pattern_offset bs l + 1) < machines_n bs
-  line_machine l h = stable_lt (byte_at bs (pattern_offset bs l + 1)) (machines_n bs) (part (λ q. q.1.0) (line_good l h))
+  line_machine l h = (line_good l h).1.0
 
-  local_fits : (n l : ℕ) → (((l < n) ⊎ (l ≡ 255) → ⊥) → ⊥) → LocalFits n (local_of l)
+  local_fits : (n l : ℕ) → (l < n) ⊎ (l ≡ 255) → LocalFits n (local_of l)
   local_fits n l good = elim (cases_eq l 255) [
-    | inl e ↦ subst (λ (b : Bool). LocalFits n (cond b None (Some l))) (sym (eq-eqb l 255 e)) tt
-    | inr ne ↦ subst (λ (b : Bool). LocalFits n (cond b None (Some l))) (sym (ne_eqb l 255 ne)) (stable_lt l n (part (λ q. elim q [ inl x ↦ x | inr x ↦ absurd (ne x) ]) good))
+    | inl e ↦ rw e tt
+    | inr ne ↦ rw (ne_eqb l 255 ne) (elim good [ inl x ↦ x | inr x ↦ absurd (ne x) ])
   ]
 
-  front_fits : (m f : ℕ) → (((f < m) ⊎ ((f ≡ 254) ⊎ (f ≡ 255)) → ⊥) → ⊥) → FrontFits m (front_of f)
+  front_fits : (m f : ℕ) → (f < m) ⊎ ((f ≡ 254) ⊎ (f ≡ 255)) → FrontFits m (front_of f)
   front_fits m f good = elim (cases_eq f 255) [
-    | inl e ↦ subst (λ (b : Bool). FrontFits m (cond b Any (cond (eqb f 254) Empty (Event f)))) (sym (eq-eqb f 255 e)) tt
-    | inr ne ↦ subst (λ (b : Bool). FrontFits m (cond b Any (cond (eqb f 254) Empty (Event f)))) (sym (ne_eqb f 255 ne)) (elim (cases_eq f 254) [
-      | inl e ↦ subst (λ (b : Bool). FrontFits m (cond b Empty (Event f))) (sym (eq-eqb f 254 e)) tt
-      | inr ne4 ↦ subst (λ (b : Bool). FrontFits m (cond b Empty (Event f))) (sym (ne_eqb f 254 ne4))
-          (stable_lt f m (part (λ q. elim q [ inl x ↦ x | inr y ↦ elim y [ inl x ↦ absurd (ne4 x) | inr x ↦ absurd (ne x) ] ]) good))
-    ])
+    | inl e ↦ rw e tt
+    | inr ne ↦ elim (cases_eq f 254) [
+      | inl e ↦ rw e tt
+      | inr ne4 ↦ rw (ne_eqb f 255 ne, ne_eqb f 254 ne4) (elim good [ inl x ↦ x | inr y ↦ absurd (elim y [ inl x ↦ ne4 x | inr x ↦ ne x ]) ])
+    ]
   ]
 
-  condition_fits : (o : ℕ) → ((GoodConditionAt bs o → ⊥) → ⊥) → ConditionFits (system_of bs) (condition_at bs o)
+  condition_fits : (o : ℕ) → GoodConditionAt bs o → ConditionFits (system_of bs) (condition_at bs o)
   condition_fits o good =
       let m = byte_at bs (o + 1) in
-      let there : m < machines_n bs = stable_lt m (machines_n bs) (part (λ q. q.0) good) in
       record {
-        machine = machine_there m there;
-        local = subst (λ (n : ℕ). LocalFits n (local_of (byte_at bs (o + 2)))) (sym (states_at_lem bs m there)) (local_fits (states_at bs m) (byte_at bs (o + 2)) (part (λ q. q.1) good));
-        front = front_fits (events_n bs) (byte_at bs (o + 3)) (part (λ q. q.2) good);
-        mask = stable_lt (byte_at bs (o + 4)) (2 ^ events_n bs) (part (λ q. q.3) good);
+        machine = machine_there m good.0;
+        local = rw (states_at_lem bs m good.0) (local_fits (states_at bs m) (byte_at bs (o + 2)) good.1);
+        front = front_fits (events_n bs) (byte_at bs (o + 3)) good.2;
+        mask = good.3;
       }
 
   abbrev machine_of : ℕ → ℕ
@@ -141,18 +123,10 @@ module _ (bs : List ℕ) (reads : Reads bs) where
       ]
 
   goes_on : (l : ℕ) → l + 1 < pattern_lines_n bs → GoesOn l
-  goes_on l h =
-      let good = part {P = GoesOn l} (λ q. followed l q.0) (line_good (l + 1) h) in
-      elim (cases_eq (number_of bs (l + 1)) (number_of bs l + 1)) [
-        | inl e ↦ inr e
-        | inr ne ↦ inl (
-          stable_eq (number_of bs (l + 1)) (number_of bs l) (part (λ q. elim q [ inl x ↦ x.0 | inr x ↦ absurd (ne x) ]) good),
-          stable_lt (machine_of l) (machine_of (l + 1)) (part (λ q. elim q [ inl x ↦ x.1 | inr x ↦ absurd (ne x) ]) good),
-        )
-      ]
+  goes_on l h = followed l (line_good (l + 1) h).0
 
   begins : 0 < pattern_lines_n bs → number_of bs 0 ≡ 0
-  begins h = stable_eq (number_of bs 0) 0 (part (λ q. elim q.0 [ inl x ↦ x.1 | inr y ↦ elim y [ inl x ↦ absurd (omega (arith, x.0)) | inr x ↦ absurd (omega (arith, x.0)) ] ]) (line_good 0 h))
+  begins h = grind (arith, (line_good 0 h).0)
 
   pub reads_numbered : Numbered bs
   reads_numbered = record { first = begins; next = λ l h. elim (goes_on l h) [ inl x ↦ inl x.0 | inr x ↦ inr x ] }
@@ -202,7 +176,7 @@ module _ (bs : List ℕ) (reads : Reads bs) where
       record {
         some = some_kept f t 0 (pattern_lines_n bs) k.0 (omega arith) (omega (arith, k.1)) (eq-eqb _ p k.2);
         fit = all_kept (ConditionFits (system_of bs)) f t 0 (pattern_lines_n bs)
-            (λ j l u e. condition_fits (pattern_offset bs j) (part (λ q. q.1) (line_good j (omega arith))));
+            (λ j l u e. condition_fits (pattern_offset bs j) (line_good j (omega arith)).1);
         rise = rise_kept f t 0 (pattern_lines_n bs) 0
             (λ j l u e. omega arith)
             (λ i j a lt u e g.
@@ -222,8 +196,8 @@ module _ (bs : List ℕ) (reads : Reads bs) where
     few_machines = omega (arith, machines_long bs, few_machines);
     some_events = some_events;
     few_events = few_events;
-    some_states = λ i h. (let l : i < machines_n bs = omega (arith, machines_long bs) in omega (arith, states_at_lem bs i l, some_states i l));
-    few_states = λ i h. (let l : i < machines_n bs = omega (arith, machines_long bs) in omega (arith, states_at_lem bs i l, few_states i l));
+    some_states = λ i h. (let l : i < machines_n bs = omega (arith, machines_long bs) in omega (arith, states_at_lem bs i l, machine_good i l));
+    few_states = λ i h. (let l : i < machines_n bs = omega (arith, machines_long bs) in omega (arith, states_at_lem bs i l, machine_good i l));
     rules = rules_fit;
     patterns = patterns_fit;
   }
