@@ -1,13 +1,12 @@
 -- A step leads from states of the system to states of the system. Assumes nothing.
-use Rattle.std.proofs.Common.{◌≡◌, ℕ, ◌<◌, List, [], ◌∷◌, ◌++◌, set, sym, ap, ◌∙◌, subst, inl, inr, arith, length-set, get_or-set_other, get_or-set_same}
-use lib.ListN.{length-replicate, get_or-replicate}
-use Rattle.std.proofs.lemmas.Bool.{cases_eq}
+use Rattle.std.proofs.Common.{◌≡◌, ℕ, ◌<◌, List, [], ◌∷◌, ◌++◌, set, sym, ap, ◌∙◌, subst, arith, length-set}
+use Rattle.std.proofs.lemmas.Grind.{common_steps}
 use Rattle.model.specs.declared.rule.Action.{Action}
 use Rattle.model.specs.declared.rule.Action.TheVariants.{Local, Take, Send}
 use Rattle.model.specs.declared.rule.Rule.{Rule}
 use Rattle.model.specs.Queue.{Over}
 use Rattle.model.specs.System.{System, machines, states_of, rule_of, ActionFits, RuleFits, WellFormed}
-use Rattle.model.specs.State.{State, local_at, queue_at, start, IsState}
+use Rattle.model.specs.State.{State, queue_at, start, IsState}
 use Rattle.model.specs.Steps.{moved, Acts, Step, Reaches, begin, onward}
 use Rattle.model.specs.Laws.{RuleDetermines, ReachedIsState}
 
@@ -19,21 +18,15 @@ module _ (S : System) where
   pub is_set : (s : State) (i l : ℕ) (Q : List ℕ) → IsState S s → i < machines S → l < states_of S i → Over S.events Q → IsState S (set s i (l, Q))
   is_set s i l Q is h hl o = record {
     entries = length-set s i (l, Q) ∙ is.entries;
-    locals = λ j hj. elim (cases_eq j i) [
-      | inl e ↦ subst (λ (x : ℕ). local_at (set s i (l, Q)) x < states_of S x) (sym e) (subst (λ (x : ℕ × List ℕ). x.0 < states_of S i) (sym (get_or-set_same s i (l, Q) (0, []) (omega (arith, is.entries)))) hl)
-      | inr ne ↦ subst (λ (x : ℕ × List ℕ). x.0 < states_of S j) (sym (get_or-set_other s i j (l, Q) (0, []) ne)) (is.locals j hj)
-    ];
-    queues = λ j hj. elim (cases_eq j i) [
-      | inl e ↦ subst (λ (x : ℕ). Over S.events (queue_at (set s i (l, Q)) x)) (sym e) (subst (λ (x : ℕ × List ℕ). Over S.events x.1) (sym (get_or-set_same s i (l, Q) (0, []) (omega (arith, is.entries)))) o)
-      | inr ne ↦ subst (λ (x : ℕ × List ℕ). Over S.events x.1) (sym (get_or-set_other s i j (l, Q) (0, []) ne)) (is.queues j hj)
-    ];
+    locals = λ j hj. grind (arith, common_steps, is.entries, is.locals j hj);
+    queues = λ j hj. grind (arith, common_steps, is.entries, is.queues j hj);
   }
 
   pub start_is : WellFormed S → IsState S (start S)
   start_is w = record {
-    entries = length-replicate (machines S) (0, []);
-    locals = λ j hj. subst (λ (x : ℕ × List ℕ). x.0 < states_of S j) (sym (get_or-replicate (machines S) j (0, []) (0, []) hj)) (omega (arith, w.some_states j hj));
-    queues = λ j hj. subst (λ (x : ℕ × List ℕ). Over S.events x.1) (sym (get_or-replicate (machines S) j (0, []) (0, []) hj)) tt;
+    entries = grind (arith, common_steps);
+    locals = λ j hj. grind (arith, common_steps, w.some_states j hj);
+    queues = λ j hj. grind (arith, common_steps);
   }
 
   acts_is : (x : Rule) (s t : State) → IsState S s → RuleFits S x → (a : Action) → ActionFits S a → Acts a x s t → IsState S t
