@@ -1,5 +1,5 @@
 // The removals of a code, one after another.
-ghost use Rattle.std.specs.Prelude.{◌≡◌, ℕ};
+ghost use Rattle.std.specs.Prelude.{◌≡◌, ℕ, ◌^◌, ◌≤◌, length};
 ghost use Rattle.std.specs.Iterator.{YieldsFirst, item_count};
 ghost use Rattle.std.specs.Iterator.Runs.{YieldsInOrder};
 
@@ -40,6 +40,7 @@ impl<'a, A: QueueAbstraction> Iterator for Removals<'a, A> {
 // All removals of the code, in their order.
 pub fn each_removal<A: QueueAbstraction>(abstraction: &A, m: u8, c: u64) -> Removals<'_, A>
     ensures value { result ≡ A.removals abstraction.now m c }
+    ensures few { length result ≤ 2 ^ 63 }
     ensures runs { YieldsInOrder (YieldsFirst {A = ℕ × ℕ} (λ s. s)) (λ s. s) }
 {
     Removals {
