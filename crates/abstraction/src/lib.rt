@@ -9,7 +9,6 @@ use crate::removals::each_removal;
 use model::queue::Front;
 
 pub mod limits;
-pub mod mask;
 pub mod removals;
 
 // What callers may rely on, whatever the abstraction: m is the number of events, c a code.

@@ -9,7 +9,7 @@ ghost use Rattle.list_abstraction.specs.Meaning.{list_meaning};
 
 use abstraction::QueueAbstraction;
 use abstraction::limits::valid;
-use abstraction::mask::bit;
+use model::mask::bit;
 use model::queue::Front;
 
 #[derive(Clone, Copy)]
