@@ -11,51 +11,37 @@ use keep_first::KeepFirst;
 use list_abstraction::ListAbstraction;
 
 // Position i of a list code is event + 1 of the i-th first occurrence, and 0 behind the last.
-pub fn list_positions() -> u8
+pub fn list_positions()
     ensures { ListPositions }
-{
-    0
-}
+{}
 
 // A bit of a set code is set exactly when its event waits.
-pub fn set_mask() -> u8
+pub fn set_mask()
     ensures { SetMask }
-{
-    0
-}
+{}
 
 // The list abstraction under p layers is the list abstraction with parameter p.
-pub fn layers_keep_prefix() -> u8
+pub fn layers_keep_prefix()
     ensures { LayersKeepPrefix }
-{
-    0
-}
+{}
 
 // Codes, removals and appends worked by hand.
-pub fn worked_values() -> u8
+pub fn worked_values()
     ensures { Worked }
+{}
+
+fn keep<A>(below: A) -> KeepFirst<A>
+    ensures { result.below ≡ below }
 {
-    0
+    KeepFirst { below }
 }
 
 // The widths of seven and of eight layers over the list: the last that is in use, and the first that is not.
 pub fn layer_widths() -> (u8, u8)
     ensures { result ≡ (60, 64) }
 {
-    let three = KeepFirst {
-        below: KeepFirst {
-            below: KeepFirst {
-                below: ListAbstraction,
-            },
-        },
-    };
-    let seven = KeepFirst {
-        below: KeepFirst {
-            below: KeepFirst {
-                below: KeepFirst { below: three },
-            },
-        },
-    };
-    let eight = KeepFirst { below: seven };
+    let three = keep(keep(keep(ListAbstraction)));
+    let seven = keep(keep(keep(keep(three))));
+    let eight = keep(seven);
     (seven.width(), eight.width())
 }

@@ -1,4 +1,5 @@
 // The least and the greatest of what the calls take: numbers of events, widths, bits above the width.
+use crate::keep;
 use abstraction::QueueAbstraction;
 use blank_abstraction::BlankAbstraction;
 use keep_first::KeepFirst;
@@ -7,13 +8,9 @@ use model::queue::Front;
 use set_abstraction::SetAbstraction;
 use std::process::Abort;
 
-type Kept<A> = KeepFirst<A>;
+type ThreeKept<A> = KeepFirst<KeepFirst<KeepFirst<A>>>;
 
-type SevenKept = Kept<Kept<Kept<Kept<Kept<Kept<Kept<ListAbstraction>>>>>>>;
-
-fn keep<A>(below: A) -> KeepFirst<A> {
-    KeepFirst { below }
-}
+type SevenKept = KeepFirst<ThreeKept<ThreeKept<ListAbstraction>>>;
 
 fn seven_kept() -> SevenKept {
     keep(keep(keep(keep(keep(keep(keep(ListAbstraction)))))))

@@ -1,8 +1,8 @@
 // Each abstraction against all queues of at most five events, over one, two and three events. That many show every
 // removal and every answer of allows here, with up to one layer.
+use crate::keep;
 use abstraction::QueueAbstraction;
 use blank_abstraction::BlankAbstraction;
-use keep_first::KeepFirst;
 use list_abstraction::ListAbstraction;
 use model::queue::Front;
 use set_abstraction::SetAbstraction;
@@ -12,17 +12,11 @@ use std::process::Abort;
 const QUEUES: usize = 1024;
 
 const LONGEST: usize = 5;
-// stands for the code of what is no queue over m events
-const NO_CODE: u64 = u64::MAX;
 // more than the removals of any code here
 const REMOVALS: u64 = 12;
 
-#[derive(Clone, Copy)]
-enum Kind {
-    List,
-    Set,
-    Blank,
-}
+// The code of each queue, by its number, and nothing for what is no queue over the events.
+type Codes = [Option<u64>; QUEUES];
 
 fn is_queue(m: u8, queue: usize) -> bool {
     let mut rest = queue;
@@ -68,32 +62,26 @@ fn list_of(queue: usize) -> u64 {
     list
 }
 
-// The code of every queue over m events, by its number.
-fn codes_of(kind: Kind, m: u8) -> [u64; QUEUES] {
-    let mut codes = [NO_CODE; QUEUES];
-    for queue in 0..QUEUES {
+fn codes_of<C: Fn(usize) -> u64>(m: u8, code: C) -> Codes
+    requires { C.IsAlwaysCallable code }
+{
+    let mut codes = [None; QUEUES];
+    for (queue, place) in codes.iter_mut().enumerate() {
         if is_queue(m, queue) {
-            codes[queue] = match kind {
-                Kind::List => list_of(queue),
-                Kind::Set => u64::from(mask_of(queue)),
-                Kind::Blank => 0,
-            };
+            *place = Some(code(queue));
         }
     }
     codes
 }
 
 // The same under one layer.
-fn kept(below: &[u64; QUEUES]) -> [u64; QUEUES] {
-    let mut codes = [NO_CODE; QUEUES];
-    for queue in 0..QUEUES {
-        if below[queue] != NO_CODE {
-            codes[queue] = match queue {
-                0 => 0,
-                _ => below[queue / 4]
-                    .wrapping_mul(16)
-                    .wrapping_add((queue % 4) as u64),
-            };
+fn kept(below: &Codes) -> Codes {
+    let mut codes = *below;
+    for (queue, place) in codes.iter_mut().enumerate() {
+        if queue != 0 && place.is_some() {
+            *place = below[queue / 4].map(|rest| {
+                rest.wrapping_mul(16).wrapping_add((queue % 4) as u64)
+            });
         }
     }
     codes
@@ -107,25 +95,22 @@ fn begins(front: Front, queue: usize) -> bool {
     }
 }
 
-fn allowed(codes: &[u64; QUEUES], c: u64, front: Front, mask: u8) -> bool {
-    for queue in 0..QUEUES {
-        if codes[queue] == c && begins(front, queue) && mask & mask_of(queue) == mask {
+fn allowed(codes: &Codes, c: u64, front: Front, mask: u8) -> bool {
+    codes.iter().enumerate().any(|(queue, code)| {
+        *code == Some(c) && begins(front, queue) && mask & mask_of(queue) == mask
+    })
+}
+
+fn removes(codes: &Codes, c: u64, e: u8, d: u64) -> bool {
+    for (queue, code) in codes.iter().enumerate() {
+        if *code == Some(c) && queue % 4 == usize::from(e) + 1 && codes[queue / 4] == Some(d) {
             return true;
         }
     }
     false
 }
 
-fn removes(codes: &[u64; QUEUES], c: u64, e: u8, d: u64) -> bool {
-    for queue in 1..QUEUES {
-        if codes[queue] == c && queue % 4 == usize::from(e) + 1 && codes[queue / 4] == d {
-            return true;
-        }
-    }
-    false
-}
-
-fn check_allows<A: QueueAbstraction>(rt: &impl Abort, a: &A, m: u8, c: u64, codes: &[u64; QUEUES]) {
+fn check_allows<A: QueueAbstraction>(rt: &impl Abort, a: &A, m: u8, c: u64, codes: &Codes) {
     for mask in 0..16 {
         assert_eq!(rt;
             a.allows(m, c, Front::Any, mask),
@@ -145,13 +130,7 @@ fn check_allows<A: QueueAbstraction>(rt: &impl Abort, a: &A, m: u8, c: u64, code
 }
 
 // No removal is wrong, and each that some queue shows stands there once.
-fn check_removals<A: QueueAbstraction>(
-    rt: &impl Abort,
-    a: &A,
-    m: u8,
-    c: u64,
-    codes: &[u64; QUEUES],
-) {
+fn check_removals<A: QueueAbstraction>(rt: &impl Abort, a: &A, m: u8, c: u64, codes: &Codes) {
     for k in 0..REMOVALS {
         if let Some((e, d)) = a.removal(m, c, k) {
             assert!(rt; removes(codes, c, e, d));
@@ -161,33 +140,35 @@ fn check_removals<A: QueueAbstraction>(
         }
     }
     for queue in 1..QUEUES {
-        if codes[queue] == c {
-            let e = (queue % 4).saturating_sub(1) as u8;
-            assert!(rt; abstraction::has_removal(a, m, c, e, codes[queue / 4]));
+        if let Some(d) = codes[queue / 4] {
+            if codes[queue] == Some(c) {
+                let e = (queue % 4).saturating_sub(1) as u8;
+                assert!(rt; abstraction::has_removal(a, m, c, e, d));
+            }
         }
     }
     assert!(rt; a.removal(m, c, REMOVALS) == None);
 }
 
-fn check_append<A: QueueAbstraction>(rt: &impl Abort, a: &A, m: u8, codes: &[u64; QUEUES]) {
+fn check_append<A: QueueAbstraction>(rt: &impl Abort, a: &A, m: u8, codes: &Codes) {
     let mut back = 1;
     for queue in 0..QUEUES / 4 {
         if queue == back {
             back = back.wrapping_mul(4);
         }
-        if codes[queue] != NO_CODE {
+        if let Some(c) = codes[queue] {
             for e in 0..m {
                 let longer = queue.wrapping_add(back.wrapping_mul(usize::from(e) + 1));
                 assert!(rt; longer < QUEUES);
-                assert!(rt; a.append(m, codes[queue], e) == Some(codes[longer]));
+                assert!(rt; a.append(m, c, e) == codes[longer]);
             }
         }
     }
 }
 
 // The abstraction answers as the enumeration does, for every code below the limit.
-fn compare<A: QueueAbstraction>(rt: &impl Abort, a: &A, m: u8, codes: &[u64; QUEUES], limit: u64) {
-    assert_eq!(rt; a.empty(), codes[0]);
+fn compare<A: QueueAbstraction>(rt: &impl Abort, a: &A, m: u8, codes: &Codes, limit: u64) {
+    assert!(rt; codes[0] == Some(a.empty()));
     check_append(rt, a, m, codes);
     for c in 0..limit {
         let good = allowed(codes, c, Front::Any, 0);
@@ -204,51 +185,27 @@ fn compare<A: QueueAbstraction>(rt: &impl Abort, a: &A, m: u8, codes: &[u64; QUE
 #[test]
 fn list(rt: HostRuntime) {
     for m in 1..4 {
-        let codes = codes_of(Kind::List, m);
+        let codes = codes_of(m, list_of);
         compare(&rt, &ListAbstraction, m, &codes, 0x1000);
-        compare(
-            &rt,
-            &KeepFirst {
-                below: ListAbstraction,
-            },
-            m,
-            &kept(&codes),
-            0x4000,
-        );
+        compare(&rt, &keep(ListAbstraction), m, &kept(&codes), 0x4000);
     }
 }
 
 #[test]
 fn set(rt: HostRuntime) {
     for m in 1..4 {
-        let codes = codes_of(Kind::Set, m);
+        let codes = codes_of(m, |queue| u64::from(mask_of(queue)));
         compare(&rt, &SetAbstraction, m, &codes, 0x200);
-        compare(
-            &rt,
-            &KeepFirst {
-                below: SetAbstraction,
-            },
-            m,
-            &kept(&codes),
-            0x400,
-        );
+        compare(&rt, &keep(SetAbstraction), m, &kept(&codes), 0x400);
     }
 }
 
 #[test]
 fn blank(rt: HostRuntime) {
     for m in 1..4 {
-        let codes = codes_of(Kind::Blank, m);
+        let codes = codes_of(m, |_| 0);
         compare(&rt, &BlankAbstraction, m, &codes, 0x10);
-        compare(
-            &rt,
-            &KeepFirst {
-                below: BlankAbstraction,
-            },
-            m,
-            &kept(&codes),
-            0x100,
-        );
+        compare(&rt, &keep(BlankAbstraction), m, &kept(&codes), 0x100);
     }
 }
 
@@ -256,17 +213,7 @@ fn blank(rt: HostRuntime) {
 #[test]
 fn two_layers(rt: HostRuntime) {
     for m in 1..3 {
-        let codes = kept(&kept(&codes_of(Kind::List, m)));
-        compare(
-            &rt,
-            &KeepFirst {
-                below: KeepFirst {
-                    below: ListAbstraction,
-                },
-            },
-            m,
-            &codes,
-            0x4000,
-        );
+        let codes = kept(&kept(&codes_of(m, list_of)));
+        compare(&rt, &keep(keep(ListAbstraction)), m, &codes, 0x4000);
     }
 }

@@ -31,7 +31,7 @@ returns-then-begins g c =
     ] in
     allow_up w code c.args.m c.args.c _ _ c.args.mask _ c.args.front _ v s.1 s.2 c.without.ensures begin c.allows.ensures
 
-pub returns-in-None : goal.returns-in-None
-returns-in-None g c =
-    let s = subst (λ (w : ℕ). Split w c.args.m c.args.c None) c.width-2.ensures c.in-None.ensures in
+pub returns-in_default-split : goal.returns-in_default-split
+returns-in_default-split g c =
+    let s = subst (λ (w : ℕ). Split w c.args.m c.args.c None) c.width-2.ensures c.in_default-split.ensures in
     (λ t. absurd (false≢true t), λ h. absurd (allow_parts _ _ _ _ _ _ c.if-c-eq0.false s h))
