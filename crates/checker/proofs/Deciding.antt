@@ -1,5 +1,5 @@
 -- What the tests of a record that is held decide. Assumes nothing.
-use Rattle.std.proofs.Common.{◌≡◌, ℕ, ◌<◌, Bool, List, [], ◌∷◌, ◌++◌, length, get_or, Some, Ok, Err, Decides, Result, sym, refl, ap, ◌∙◌, subst, arith}
+use Rattle.std.proofs.Common.{◌≡◌, ℕ, ◌<◌, Bool, List, [], ◌∷◌, ◌++◌, length, get_or, Some, Ok, Err, Decides, Option, Result, sym, refl, ap, ◌∙◌, subst, arith}
 use Rattle.model.specs.Bad.{NoTake}
 use Rattle.model.specs.Order.{each, one}
 use Rattle.model.specs.Queue.{Over}
@@ -27,12 +27,25 @@ module _ (T : Claim) (law : Means T) (n k : ℕ) (h : Held) (j : Judging T n k h
   pub entry_is : (i l c : ℕ) → (l, c) ≡ get_or (record_in h) i (0, 0) → (l, c) ≡ get_or (record_of T k) i (0, 0)
   entry_is i l c q = q ∙ ap (λ (r : Record). get_or r i (0, 0)) j.is
 
+  pub entry_code : (i l c : ℕ) → (l, c) ≡ get_or (record_in h) i (0, 0) → c ≡ code_in (record_of T k) i
+  entry_code i l c q = ap (λ (x : ℕ × ℕ). x.1) (entry_is i l c q)
+
+  -- what is removed from the code that is held is removed from that of record k
+  pub removal_at : (i l d m c : ℕ) (o : Option (ℕ × ℕ)) → (l, d) ≡ get_or (record_in h) i (0, 0) → m ≡ T.system.events → o ≡ slice_get (T.removals m d) c → slice_get (T.removals T.system.events (code_in (record_of T k) i)) c ≡ o
+  removal_at i l d m c o q ev is =
+      ap (λ (z : ℕ). slice_get (T.removals T.system.events z) c) (sym (entry_code i l d q))
+      ∙ ap (λ (z : ℕ). slice_get (T.removals z d) c) (sym ev)
+      ∙ sym is
+
+  pub enabled_at : (r : ℕ) (x : Rule) (a : Action) (l d : ℕ) → r < length T.system.rules → x ≡ rule_of T.system r → (l, d) ≡ get_or (record_in h) x.machine (0, 0) → l ≡ x.from → x.action ≡ a → Enabled T k r x a
+  enabled_at r x a l d lt is q from action = record { below = lt; is = is; action = action; from = sym (ap (λ (z : ℕ × ℕ). z.0) (entry_is x.machine l d q)) ∙ from }
+
   module _ (i e l c m : ℕ) (q : (l, c) ≡ get_or (record_in h) i (0, 0)) (lt : i < machines T.system) (ev : m ≡ T.system.events) where
     is_local : l ≡ local_in (record_of T k) i
     is_local = ap (λ (x : ℕ × ℕ). x.0) (entry_is i l c q)
 
     is_code : c ≡ code_in (record_of T k) i
-    is_code = ap (λ (x : ℕ × ℕ). x.1) (entry_is i l c q)
+    is_code = entry_code i l c q
 
     pub surprise_not : (NoTake T.system i l e → ⊥) → Applies T (surprise k i e) → ⊥
     surprise_not taken a = taken (subst (λ (z : ℕ). NoTake T.system i z e) (sym is_local) ((surprise_lets T law (record_of T k) j.sound i e lt).1 a).1)

@@ -4,5 +4,6 @@ pub mod Held
 pub mod Hints
 pub mod Plan
 pub mod Inner
+pub mod Case
 pub mod Verdict
 pub mod Promise
