@@ -37,12 +37,9 @@ impl<A: QueueAbstraction> Judgement<'_, A> {
         if !local_is(condition.local, entry.local) {
             return false;
         }
-        case.abstraction.allows(
-            events(&case.table),
-            entry.code,
-            condition.front,
-            condition.mask,
-        )
+        let m = events(&case.table);
+        case.abstraction
+            .allows(m, entry.code, condition.front, condition.mask)
     }
 
     // Whether line `l` keeps pattern `n` from being met.
