@@ -38,8 +38,8 @@ impl<A: QueueAbstraction> Judgement<'_, A> {
             return false;
         }
         let m = events(&case.table);
-        case.abstraction
-            .allows(m, entry.code, condition.front, condition.mask)
+        let abstraction = case.abstraction;
+        abstraction.allows(m, entry.code, condition.front, condition.mask)
     }
 
     // Whether line `l` keeps pattern `n` from being met.
