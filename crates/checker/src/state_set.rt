@@ -6,7 +6,7 @@ ghost use Rattle.checker.specs.Held.{entry_of, record_in};
 ghost use Rattle.checker.specs.Inner.{Found, ListedIn};
 ghost use Rattle.checker.specs.SetFile.{records_n, long_at, record_at, records_of, SetReady, entry_byte, byte_in, byte_of, record_byte, Before, Same};
 
-use crate::held::{Entry, Held, MOST_MACHINES, entry_at};
+use crate::held::{Entry, Held, MOST_MACHINES};
 use std::cmp::Ordering;
 use table::bytes::word;
 
@@ -52,7 +52,6 @@ impl<'a> StateSet<'a> {
 
     // Whether record `k`, which is held, stands above the one before.
     pub(crate) fn stands_above(&self, k: u16, held: &Held) -> bool
-        requires few { held.now.machines ≤ 6 }
         requires some { 0 < k }
         requires long { 16 + 9 * held.now.machines * (k - 1) + 9 * held.now.machines ≤ length self.now.bytes.now }
         requires is { record_in held.now ≡ record_at held.now.machines self.now.bytes.now k }
@@ -63,9 +62,7 @@ impl<'a> StateSet<'a> {
 
     // Whether the record stands in the set.
     pub(crate) fn contains(&self, target: &Held) -> bool
-        requires few { target.now.machines ≤ 6 }
-        requires sized { length (record_in target.now) ≡ target.now.machines }
-        requires ready { SetReady target.now.machines self.now.bytes.now }
+        requires { SetReady target.now.machines self.now.bytes.now }
         ensures { Decides result (ListedIn (records_of target.now.machines self.now.bytes.now) (record_in target.now)) }
     {
         listed(self.bytes, target)
@@ -73,9 +70,7 @@ impl<'a> StateSet<'a> {
 
     // Where the record stands in the set, if it does; `near` is where it is looked for first.
     pub(crate) fn find(&self, target: &Held, near: u16) -> Option<u16>
-        requires few { target.now.machines ≤ 6 }
-        requires sized { length (record_in target.now) ≡ target.now.machines }
-        requires ready { SetReady target.now.machines self.now.bytes.now }
+        requires { SetReady target.now.machines self.now.bytes.now }
         ensures { Found (records_of target.now.machines self.now.bytes.now) (record_in target.now) result }
     {
         place(self.bytes, target, near)
@@ -105,18 +100,18 @@ fn load(set: &[u8], n: u8, k: u16) -> Held
     ensures is { record_in result ≡ record_at n set.now k }
     ensures machines { result.machines ≡ n }
 {
-    let mut held = Held {
-        machines: n,
-        entries: [Entry { local: 0, code: 0 }; MOST_MACHINES],
-    };
+    let mut entries = [Entry { local: 0, code: 0 }; MOST_MACHINES];
     let start = 16 + 9 * n as usize * k as usize;
     for i in 0..n as usize {
-        held.entries[i] = Entry {
+        entries[i] = Entry {
             local: set[start + 9 * i],
             code: long(set, start + 9 * i + 1),
         };
     }
-    held
+    Held {
+        machines: n,
+        entries,
+    }
 }
 
 // A byte of a local state and a code.
@@ -133,12 +128,11 @@ fn byte_in(local: u8, number: u64, place: u16) -> u8
 
 // Byte `t` of a record.
 fn byte_of(target: &Held, t: u16) -> u8
-    requires few { target.now.machines ≤ 6 }
-    requires below { t < 9 * target.now.machines }
+    requires { t < 9 * target.now.machines }
     ensures is { result ≡ byte_of (record_in target.now) t }
     ensures small { code_in (record_in target.now) (t / 9) < 2 ^ 64 }
 {
-    let entry = entry_at(target, (t / 9) as u8);
+    let entry = target.entry((t / 9) as u8);
     byte_in(entry.local, entry.code, t % 9)
 }
 
@@ -167,13 +161,12 @@ fn compare_entry(set: &[u8], at: usize, entry: Entry) -> Ordering
 
 // How record `k` of the set compares with another, as byte strings.
 fn compare(set: &[u8], k: u16, target: &Held) -> Ordering
-    requires few { target.now.machines ≤ 6 }
-    requires long { 16 + 9 * target.now.machines * k + 9 * target.now.machines ≤ length set.now }
+    requires { 16 + 9 * target.now.machines * k + 9 * target.now.machines ≤ length set.now }
     ensures { MatchOrdering result (Before (9 * target.now.machines) (record_byte target.now.machines set.now k) (byte_of (record_in target.now))) (Same (9 * target.now.machines) (record_byte target.now.machines set.now k) (byte_of (record_in target.now)) × ((t : ℕ) → t < 9 * target.now.machines → code_in (record_in target.now) (t / 9) < 2 ^ 64)) (Before (9 * target.now.machines) (byte_of (record_in target.now)) (record_byte target.now.machines set.now k)) }
 {
     let start = 16 + 9 * target.machines as usize * k as usize;
     for i in 0..target.machines {
-        match compare_entry(set, start + 9 * i as usize, entry_at(target, i)) {
+        match compare_entry(set, start + 9 * i as usize, target.entry(i)) {
             Ordering::Less => return Ordering::Less,
             Ordering::Greater => return Ordering::Greater,
             Ordering::Equal => {}
@@ -219,9 +212,7 @@ fn downwards(low: u16, high: u16, reach: u16) -> u16
 
 // Where the record stands in the set: first looked for at `near`, then ever farther from there, then by halves.
 fn place(set: &[u8], target: &Held, near: u16) -> Option<u16>
-    requires few { target.now.machines ≤ 6 }
-    requires sized { length (record_in target.now) ≡ target.now.machines }
-    requires ready { SetReady target.now.machines set.now }
+    requires { SetReady target.now.machines set.now }
     ensures { Found (records_of target.now.machines set.now) (record_in target.now) result }
 {
     let mut low = 0;
@@ -248,9 +239,7 @@ fn place(set: &[u8], target: &Held, near: u16) -> Option<u16>
 
 // Whether the record stands in the set.
 fn listed(set: &[u8], target: &Held) -> bool
-    requires few { target.now.machines ≤ 6 }
-    requires sized { length (record_in target.now) ≡ target.now.machines }
-    requires ready { SetReady target.now.machines set.now }
+    requires { SetReady target.now.machines set.now }
     ensures { Decides result (ListedIn (records_of target.now.machines set.now) (record_in target.now)) }
 {
     place(set, target, 0).is_some()
@@ -258,7 +247,6 @@ fn listed(set: &[u8], target: &Held) -> bool
 
 // Whether the record stands above the one before.
 fn is_above(set: &[u8], k: u16, held: &Held) -> bool
-    requires few { held.now.machines ≤ 6 }
     requires some { 0 < k }
     requires long { 16 + 9 * held.now.machines * (k - 1) + 9 * held.now.machines ≤ length set.now }
     requires is { record_in held.now ≡ record_at held.now.machines set.now k }

@@ -13,9 +13,9 @@ returns-in-Less c =
     let k = c.args.k in
     let r = record_in c.args.target.now in
     let i = c.loop-i.i in
-    before_on n i (record_byte n bs k) (byte_of r) (entry_byte bs (16 + 9 * n * k + 9 * i)) (byte_in (entry_of c.entry_at.result)) c.loop-i-test.true c.loop-i.invariant.0
+    before_on n i (record_byte n bs k) (byte_of r) (entry_byte bs (16 + 9 * n * k + 9 * i)) (byte_in (entry_of c.entry.result)) c.loop-i-test.true c.loop-i.invariant.0
     (λ s l. let e : 16 + 9 * n * k + (9 * i + s) ≡ 16 + 9 * n * k + 9 * i + s = omega arith in ap (λ (z : ℕ). get_or bs z 0) e)
-    (λ s l. byte_of_lem n bs k r i s l ∙ ap (λ (z : ℕ × ℕ). byte_in z s) (sym c.entry_at.ensures))
+    (λ s l. byte_of_lem n bs k r i s l ∙ ap (λ (z : ℕ × ℕ). byte_in z s) (sym c.entry.ensures))
     c.in-Less.ensures
 
 pub returns-in-Greater : goal.returns-in-Greater
@@ -25,8 +25,8 @@ returns-in-Greater c =
     let k = c.args.k in
     let r = record_in c.args.target.now in
     let i = c.loop-i.i in
-    before_on n i (byte_of r) (record_byte n bs k) (byte_in (entry_of c.entry_at.result)) (entry_byte bs (16 + 9 * n * k + 9 * i)) c.loop-i-test.true (same_sym (9 * i) (record_byte n bs k) (byte_of r) c.loop-i.invariant.0)
-    (λ s l. byte_of_lem n bs k r i s l ∙ ap (λ (z : ℕ × ℕ). byte_in z s) (sym c.entry_at.ensures))
+    before_on n i (byte_of r) (record_byte n bs k) (byte_in (entry_of c.entry.result)) (entry_byte bs (16 + 9 * n * k + 9 * i)) c.loop-i-test.true (same_sym (9 * i) (record_byte n bs k) (byte_of r) c.loop-i.invariant.0)
+    (λ s l. byte_of_lem n bs k r i s l ∙ ap (λ (z : ℕ × ℕ). byte_in z s) (sym c.entry.ensures))
     (λ s l. let e : 16 + 9 * n * k + (9 * i + s) ≡ 16 + 9 * n * k + 9 * i + s = omega arith in ap (λ (z : ℕ). get_or bs z 0) e)
     c.in-Greater.ensures
 
@@ -38,12 +38,12 @@ loop-i-preserved c =
     let r = record_in c.args.target.now in
     let i = c.loop-i.i in
     let q = c.in-Equal.ensures in (
-      same_on n i (record_byte n bs k) (byte_of r) (entry_byte bs (16 + 9 * n * k + 9 * i)) (byte_in (entry_of c.entry_at.result)) c.loop-i-test.true c.loop-i.invariant.0
+      same_on n i (record_byte n bs k) (byte_of r) (entry_byte bs (16 + 9 * n * k + 9 * i)) (byte_in (entry_of c.entry.result)) c.loop-i-test.true c.loop-i.invariant.0
           (λ s l. let e : 16 + 9 * n * k + (9 * i + s) ≡ 16 + 9 * n * k + 9 * i + s = omega arith in ap (λ (z : ℕ). get_or bs z 0) e)
-          (λ s l. byte_of_lem n bs k r i s l ∙ ap (λ (z : ℕ × ℕ). byte_in z s) (sym c.entry_at.ensures))
+          (λ s l. byte_of_lem n bs k r i s l ∙ ap (λ (z : ℕ × ℕ). byte_in z s) (sym c.entry.ensures))
           q.0,
       (λ j l. elim (cases_lt j (9 * i)) [
         | inl lt ↦ c.loop-i.invariant.1 j lt
-        | inr ge ↦ (let e : i ≡ j / 9 = omega arith in subst (λ (z : ℕ). code_in r z < 2 ^ 64) e (subst (λ (z : ℕ × ℕ). z.1 < 2 ^ 64) c.entry_at.ensures q.1))
+        | inr ge ↦ (let e : i ≡ j / 9 = omega arith in subst (λ (z : ℕ). code_in r z < 2 ^ 64) e (subst (λ (z : ℕ × ℕ). z.1 < 2 ^ 64) c.entry.ensures q.1))
       ]),
     )

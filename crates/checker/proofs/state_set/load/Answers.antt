@@ -1,37 +1,33 @@
-use Rattle.std.proofs.Common.{◌≡◌, ℕ, ◌+◌, ◌*◌, ◌<◌, ◌≢◌, map, length, get_or, set, ap, ◌∙◌, arith, length-set, get_or-set_other, get_or-set_same, below_more}
-use lib.ListN.{length-map}
+use Rattle.std.proofs.Common.{◌≡◌, ℕ, ◌+◌, ◌*◌, ◌<◌, ◌≢◌, length, get_or, set, refl, ap, ◌∙◌, arith, length-set, get_or-set_other, get_or-set_same, below_more}
 use Rattle.std.proofs.lemmas.List.FromFn.{fill_by_all}
-use Rattle.std.proofs.lemmas.List.{length-take-le}
-use Rattle.checker.proofs.Holding.{blank, held_at}
+use Rattle.checker.proofs.Holding.{blank, held_at, held_long}
 use Rattle.checker.specs.Held.{entry_of, record_in}
 use Rattle.checker.specs.SetFile.{long_at}
 use Rattle.checker.specs.declared.held.Entry.{Entry}
+use Rattle.checker.specs.declared.held.Held.{Held}
 use Rattle.checker.proofs.state_set.load.Goals as goal
 
 pub loop-i-preserved : goal.loop-i-preserved
 loop-i-preserved c =
-    let es = c.loop-i.held.entries in
+    let es = c.loop-i.entries in
     let i = c.loop-i.i in
     let bs = c.args.set.now in
     let o = 16 + 9 * c.args.n * c.args.k + 9 * i in
     let e : Entry = record { local = get_or bs o 0; code = c.long.result } in
     let len : i < length es = omega (arith, c.loop-i.invariant.0) in (
       length-set es i e ∙ c.loop-i.invariant.0,
-      c.loop-i.invariant.1,
       below_more (λ j. entry_of (get_or (set es i e) j blank) ≡ (get_or bs (16 + 9 * c.args.n * c.args.k + 9 * j) 0, long_at bs (16 + 9 * c.args.n * c.args.k + 9 * j + 1))) i
-          (λ j h. let ne : j ≢ i = omega arith in ap entry_of (get_or-set_other es i j e blank ne) ∙ c.loop-i.invariant.2 j h)
+          (λ j h. let ne : j ≢ i = omega arith in ap entry_of (get_or-set_other es i j e blank ne) ∙ c.loop-i.invariant.1 j h)
           (ap entry_of (get_or-set_same es i e blank len) ∙ ap (λ (z : ℕ). (get_or bs o 0, z)) c.long.ensures),
     )
 
 pub returns : goal.returns
 returns c =
-    let h = c.loop-i.held in
     let n = c.args.n in
     let bs = c.args.set.now in
-    let l6 : length (map entry_of h.entries) ≡ 6 = length-map h.entries entry_of ∙ c.loop-i.invariant.0 in
-    let len : length (record_in h) ≡ n = length-take-le h.machines (map entry_of h.entries) (omega (arith, c.loop-i.invariant.1, c.requires.few)) ∙ c.loop-i.invariant.1 in
+    let h : Held = record { machines = n; entries = c.loop-i.entries; few = c.requires.few; long = c.loop-i.invariant.0 } in
     record {
-      is = fill_by_all (λ j. (get_or bs (16 + 9 * n * c.args.k + 9 * j) 0, long_at bs (16 + 9 * n * c.args.k + 9 * j + 1))) (record_in h) n (0, 0) len
-          (λ j lt. held_at h j (omega (arith, c.loop-i.invariant.1)) ∙ c.loop-i.invariant.2 j (omega arith));
-      machines = c.loop-i.invariant.1;
+      is = fill_by_all (λ j. (get_or bs (16 + 9 * n * c.args.k + 9 * j) 0, long_at bs (16 + 9 * n * c.args.k + 9 * j + 1))) (record_in h) n (0, 0) (held_long h)
+          (λ j lt. held_at h j lt ∙ c.loop-i.invariant.1 j (omega arith));
+      machines = refl;
     }

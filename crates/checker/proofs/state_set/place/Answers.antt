@@ -1,5 +1,6 @@
 use Rattle.std.proofs.Common.{◌≡◌, ℕ, ◌*◌, ◌<◌, sym, ◌∙◌, subst, inl, inr, arith}
 use Rattle.std.proofs.lemmas.Bool.{cases_lt, cases_eq}
+use Rattle.checker.proofs.Holding.{held_long}
 use Rattle.checker.proofs.Ordered.{before_trans, before_not, same_sym, rises, same_record, same_bytes, room}
 use Rattle.checker.proofs.Read.{records_long, record_at_lem}
 use Rattle.checker.specs.Held.{record_in}
@@ -13,7 +14,7 @@ compare-requires c =
     let m = c.loop-low.middle in
     let i = c.loop-low.invariant in
     let lt : m < word_at c.args.set.now 10 = omega (arith, i.2 c.loop-low-test.true, i.3) in
-    record { few = c.requires.few; long = omega (arith, room (9 * n) m (word_at c.args.set.now 10) lt, c.requires.ready.long) }
+    omega (arith, room (9 * n) m (word_at c.args.set.now 10) lt, c.requires.long)
 
 pub loop-low-preserved-in-Less : goal.loop-low-preserved-in-Less
 loop-low-preserved-in-Less c =
@@ -27,7 +28,7 @@ loop-low-preserved-in-Less c =
       (λ h. (c.upwards-middle.ensures.low, c.upwards-middle.ensures.within h)),
       i.3,
       (λ j l. elim (cases_lt j m) [
-        | inl lt ↦ before_trans (9 * n) (record_byte n bs j) (record_byte n bs m) (byte_of (record_in c.args.target.now)) (rises n bs c.requires.ready.rising j m lt (omega (arith, w, i.3))) c.in-Less.ensures
+        | inl lt ↦ before_trans (9 * n) (record_byte n bs j) (record_byte n bs m) (byte_of (record_in c.args.target.now)) (rises n bs c.requires.rising j m lt (omega (arith, w, i.3))) c.in-Less.ensures
         | inr ge ↦ (let e : m ≡ j = omega arith in subst (λ (z : ℕ). Before (9 * n) (record_byte n bs z) (byte_of (record_in c.args.target.now))) e c.in-Less.ensures)
       ]),
       i.5,
@@ -41,7 +42,7 @@ returns-in-Equal c =
     let i = c.loop-low.invariant in
     let lt : m < word_at bs 10 = omega (arith, i.2 c.loop-low-test.true, i.3) in
     let q = c.in-Equal.ensures in
-    (omega (arith, records_long n bs), record_at_lem n bs m lt ∙ same_record n bs m (record_in c.args.target.now) c.requires.sized q.0 q.1)
+    (omega (arith, records_long n bs), record_at_lem n bs m lt ∙ same_record n bs m (record_in c.args.target.now) (held_long c.args.target.now) q.0 q.1)
 
 pub loop-low-preserved : goal.loop-low-preserved
 loop-low-preserved c =
@@ -57,7 +58,7 @@ loop-low-preserved c =
       i.4,
       (λ j l u. elim (cases_eq m j) [
         | inl e ↦ subst (λ (z : ℕ). Before (9 * n) (byte_of (record_in c.args.target.now)) (record_byte n bs z)) e c.in-Greater.ensures
-        | inr ne ↦ before_trans (9 * n) (byte_of (record_in c.args.target.now)) (record_byte n bs m) (record_byte n bs j) c.in-Greater.ensures (rises n bs c.requires.ready.rising m j (omega arith) u)
+        | inr ne ↦ before_trans (9 * n) (byte_of (record_in c.args.target.now)) (record_byte n bs m) (record_byte n bs j) c.in-Greater.ensures (rises n bs c.requires.rising m j (omega arith) u)
       ]),
     )
 
