@@ -14,7 +14,7 @@ ghost use Rattle.checker.specs.Ready.{Ready};
 ghost use Rattle.checker.specs.SetFile.{claim_of, records_n, record_byte, Before, SetReady};
 ghost use Rattle.checker.specs.Verdict.{bounds, field, HeaderApplies, header_numbers, header_order, Applies, numbers, form_of, form_order};
 
-use crate::held::{Entry, Held, entry_at, uniform};
+use crate::held::{Entry, Held};
 use crate::parts::{events, local_states, machines};
 use crate::state_set::StateSet;
 use abstraction::QueueAbstraction;
@@ -88,7 +88,7 @@ fn is_sound<A: QueueAbstraction>(
     ensures { Decides result (Sound (claim_of table.now.bytes.now set.now.bytes.now (A.bits abstraction.now) (A.code abstraction.now) (A.removals abstraction.now)) (record_of (claim_of table.now.bytes.now set.now.bytes.now (A.bits abstraction.now) (A.code abstraction.now) (A.removals abstraction.now)) k)) }
 {
     for i in 0..held.machines {
-        if !entry_sound(table, abstraction, i, entry_at(held, i)) {
+        if !entry_sound(table, abstraction, i, held.entry(i)) {
             return false;
         }
     }
@@ -148,7 +148,7 @@ pub(crate) fn has_start<A: QueueAbstraction>(
     requires rising { SetReady (machines_n table.now.bytes.now) set.now.bytes.now }
     ensures { Decides result (Represented (claim_of table.now.bytes.now set.now.bytes.now (A.bits abstraction.now) (A.code abstraction.now) (A.removals abstraction.now)) (start (system_of table.now.bytes.now))) }
 {
-    let held = uniform(machines(table), abstraction.empty());
+    let held = Held::uniform(machines(table), abstraction.empty());
     set.contains(&held)
 }
 

@@ -8,7 +8,7 @@ ghost use Rattle.checker.specs.Plan.{Planned};
 ghost use Rattle.checker.specs.Ready.{Ready};
 ghost use Rattle.checker.specs.SetFile.{claim_of, records_n, SetReady};
 
-use crate::held::{Held, uniform};
+use crate::held::Held;
 use crate::hints::Hints;
 use crate::parts::machines;
 use crate::pattern::check_patterns;
@@ -57,7 +57,7 @@ pub(crate) fn check_records<A: QueueAbstraction>(
     let plan = plan_of(table);
     let mut hints = Hints::none();
     let n = machines(table);
-    let mut last = uniform(n, 0);
+    let mut last = Held::uniform(n, 0);
     for k in 0..set.record_count() {
         let held = set.record(n, k);
         check_record(table, set, abstraction, &plan, &mut hints, k, &held, &last)?;

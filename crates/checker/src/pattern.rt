@@ -12,7 +12,7 @@ ghost use Rattle.checker.specs.Plan.{Planned};
 ghost use Rattle.checker.specs.Ready.{Ready};
 ghost use Rattle.checker.specs.SetFile.{claim_of};
 
-use crate::held::{Held, entry_at};
+use crate::held::Held;
 use crate::hints::Hints;
 use crate::parts::events;
 use crate::plan::Plan;
@@ -46,7 +46,7 @@ fn lets_hold<A: QueueAbstraction>(
     requires below { condition.machine < machines_n table.now.bytes.now }
     ensures { Decides result (MayHold (claim_of table.now.bytes.now set.now.bytes.now (A.bits abstraction.now) (A.code abstraction.now) (A.removals abstraction.now)) (record_of (claim_of table.now.bytes.now set.now.bytes.now (A.bits abstraction.now) (A.code abstraction.now) (A.removals abstraction.now)) k) condition) }
 {
-    let entry = entry_at(held, condition.machine);
+    let entry = held.entry(condition.machine);
     if !local_is(condition.local, entry.local) {
         return false;
     }

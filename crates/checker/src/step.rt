@@ -15,7 +15,7 @@ ghost use Rattle.checker.specs.Inner.{Judging, Enabled, Inside};
 ghost use Rattle.checker.specs.Ready.{Ready};
 ghost use Rattle.checker.specs.SetFile.{claim_of, SetReady, records_of};
 
-use crate::held::{Entry, Held, entry_at, replaced};
+use crate::held::{Entry, Held};
 use crate::hints::Hints;
 use crate::parts::events;
 use crate::plan::Plan;
@@ -34,9 +34,7 @@ fn inside(
     c: u64,
     target: &Held,
 ) -> Result<(), Fault>
-    requires few { target.now.machines ≤ 6 }
-    requires sized { length (record_in target.now) ≡ target.now.machines }
-    requires ready { SetReady target.now.machines set.now.bytes.now }
+    requires { SetReady target.now.machines set.now.bytes.now }
     ensures { Inside (records_of target.now.machines set.now.bytes.now) (record_in target.now) k r c result }
 {
     match set.find(target, hints.place(k, r, c)) {
@@ -70,8 +68,7 @@ fn moved<A: QueueAbstraction>(
     ensures machines { result.machines ≡ machines_n table.now.bytes.now }
     ensures sized { length (record_in result) ≡ machines_n table.now.bytes.now }
 {
-    replaced(
-        held,
+    held.with(
         mover.machine,
         Entry {
             local: mover.to,
@@ -98,7 +95,7 @@ fn check_local<A: QueueAbstraction>(
     requires below { mover.machine < machines_n table.now.bytes.now }
     ensures { Judged (claim_of table.now.bytes.now set.now.bytes.now (A.bits abstraction.now) (A.code abstraction.now) (A.removals abstraction.now)) (one (outside k r 0)) result }
 {
-    let own = entry_at(held, mover.machine);
+    let own = held.entry(mover.machine);
     inside(
         set,
         hints,
@@ -165,7 +162,7 @@ fn check_take<A: QueueAbstraction>(
     ensures { Judged (claim_of table.now.bytes.now set.now.bytes.now (A.bits abstraction.now) (A.code abstraction.now) (A.removals abstraction.now)) (each (length (A.removals abstraction.now (events_n table.now.bytes.now) (code_in (record_of (claim_of table.now.bytes.now set.now.bytes.now (A.bits abstraction.now) (A.code abstraction.now) (A.removals abstraction.now)) k) taker.machine))) (λ c. one (outside k r c))) result }
 {
     let m = events(table);
-    let own = entry_at(held, taker.machine);
+    let own = held.entry(taker.machine);
     let mut c = 0;
     while let Some((taken, left)) = abstraction.removal(m, own.code, c) {
         take_inside(
@@ -209,21 +206,20 @@ fn check_send<A: QueueAbstraction>(
     requires named { event < events_n table.now.bytes.now }
     ensures { Judged (claim_of table.now.bytes.now set.now.bytes.now (A.bits abstraction.now) (A.code abstraction.now) (A.removals abstraction.now)) (one (outside k r 0)) result }
 {
-    let own = entry_at(held, sender.machine);
-    let there = entry_at(held, target);
+    let own = held.entry(sender.machine);
+    let there = held.entry(target);
     let Some(longer) = abstraction.append(events(table), there.code, event) else {
         return Ok(());
     };
     let next = moved(table, set, abstraction, k, held, sender, own.code);
-    let local = entry_at(&next, target).local;
+    let local = next.entry(target).local;
     inside(
         set,
         hints,
         k,
         r,
         0,
-        &replaced(
-            &next,
+        &next.with(
             target,
             Entry {
                 local,
@@ -252,7 +248,7 @@ fn check_rule<A: QueueAbstraction>(
     ensures { Judged (claim_of table.now.bytes.now set.now.bytes.now (A.bits abstraction.now) (A.code abstraction.now) (A.removals abstraction.now)) (outcomes_of (claim_of table.now.bytes.now set.now.bytes.now (A.bits abstraction.now) (A.code abstraction.now) (A.removals abstraction.now)) k r) result }
 {
     let stepper = plan.rule(r);
-    let own = entry_at(held, stepper.machine);
+    let own = held.entry(stepper.machine);
     if own.local != stepper.from {
         return Ok(());
     }
@@ -302,7 +298,7 @@ fn machine_inside<A: QueueAbstraction>(
     requires below { i < machines_n table.now.bytes.now }
     ensures { result ≡ true → (r : ℕ) → r < rules_n table.now.bytes.now → (rule_of (system_of table.now.bytes.now) r).machine ≡ i → Nothing (Applies (claim_of table.now.bytes.now set.now.bytes.now (A.bits abstraction.now) (A.code abstraction.now) (A.removals abstraction.now))) (outcomes_of (claim_of table.now.bytes.now set.now.bytes.now (A.bits abstraction.now) (A.code abstraction.now) (A.removals abstraction.now)) k r) }
 {
-    let mut r = plan.first(i, entry_at(held, i).local);
+    let mut r = plan.first(i, held.entry(i).local);
     while r < plan.rule_count() {
         match check_rule(table, set, abstraction, plan, hints, k, held, r) {
             Ok(()) => r = plan.after(r),

@@ -8,7 +8,7 @@ ghost use Rattle.checker.specs.Plan.{Planned};
 ghost use Rattle.checker.specs.Ready.{Ready};
 ghost use Rattle.checker.specs.SetFile.{claim_of};
 
-use crate::held::{Held, entry_at, same_entry};
+use crate::held::Held;
 use crate::parts::{events, no_take};
 use crate::plan::Plan;
 use crate::state_set::StateSet;
@@ -34,7 +34,7 @@ fn lets_surprise<A: QueueAbstraction>(
     requires below { i < machines_n table.now.bytes.now }
     ensures { Decides result (Applies (claim_of table.now.bytes.now set.now.bytes.now (A.bits abstraction.now) (A.code abstraction.now) (A.removals abstraction.now)) (surprise k i e)) }
 {
-    let entry = entry_at(held, i);
+    let entry = held.entry(i);
     if plan.has_taker(table, i, entry.local, e) {
         return false;
     }
@@ -90,7 +90,7 @@ pub(crate) fn check_surprises<A: QueueAbstraction>(
     ensures { Judged (claim_of table.now.bytes.now set.now.bytes.now (A.bits abstraction.now) (A.code abstraction.now) (A.removals abstraction.now)) (surprises (claim_of table.now.bytes.now set.now.bytes.now (A.bits abstraction.now) (A.code abstraction.now) (A.removals abstraction.now)) k) result }
 {
     for i in 0..held.machines {
-        if k > 0 && same_entry(held, last, i) {
+        if k > 0 && held.entry(i) == last.entry(i) {
             continue;
         }
         machine_surprises(table, set, abstraction, k, plan, held, i)?;

@@ -1,5 +1,4 @@
-use Rattle.std.proofs.Common.{◌≡◌, ℕ, List, [], length, replicate, Decides, sym, ap, ◌∙◌, subst, arith}
-use lib.ListN.{length-replicate}
+use Rattle.std.proofs.Common.{◌≡◌, ℕ, List, [], replicate, Decides, sym, ap, ◌∙◌, subst}
 use lib.LanesLaws.{map-replicate}
 use Rattle.model.specs.State.{start}
 use Rattle.model.specs.System.{machines}
@@ -14,12 +13,7 @@ use Rattle.checker.proofs.form.has_start.Goals as goal
 
 pub contains-requires : goal.contains-requires
 contains-requires g c =
-    let m = c.uniform-held.ensures.machines in
-    record {
-      few = omega (arith, m, c.machines.ensures, c.requires.ready.few);
-      sized = ap length c.uniform-held.ensures.is ∙ length-replicate c.machines.result _ ∙ sym m;
-      ready = subst (λ (z : ℕ). SetReady z c.args.set.now.bytes.now) (sym (m ∙ c.machines.ensures)) c.requires.rising;
-    }
+    subst (λ (z : ℕ). SetReady z c.args.set.now.bytes.now) (sym (c.uniform-held.ensures.machines ∙ c.machines.ensures)) c.requires.rising
 
 pub returns : goal.returns
 returns g c =

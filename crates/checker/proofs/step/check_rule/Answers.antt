@@ -8,8 +8,8 @@ use Rattle.table.proofs.Parts.{machines_long, rules_long}
 use Rattle.table.specs.SystemOf.{system_of}
 use Rattle.checker.proofs.step.check_rule.Goals as goal
 
-pub entry_at-own-requires : goal.entry_at-own-requires
-entry_at-own-requires g c =
+pub entry-own-requires : goal.entry-own-requires
+entry-own-requires g c =
     let q = g.A.QueueAbstraction in
     let p = c.args.abstraction.now in
     let bs = c.args.table.now.bytes.now in
@@ -18,7 +18,7 @@ entry_at-own-requires g c =
     let x = c.rule-stepper.result in
     let lt : c.args.r < length (system_of bs).rules = omega (arith, rules_long bs, c.requires.below) in
     let f = rule_fits (system_of bs) c.requires.ready.proper c.args.r lt x (c.rule-stepper.ensures ∙ c.requires.planned.chained.rules c.args.r (omega arith) c.requires.below) in
-    record { few = omega (arith, c.requires.judging.machines, c.requires.ready.few); below = omega (arith, f.machine, machines_long bs, c.requires.judging.machines) }
+    omega (arith, f.machine, machines_long bs, c.requires.judging.machines)
 
 pub returns-then-own-stepper : goal.returns-then-own-stepper
 returns-then-own-stepper g c =
@@ -29,7 +29,7 @@ returns-then-own-stepper g c =
     let law = g.met.A.QueueAbstraction.meaning p in
     let x = c.rule-stepper.result in
     let lt : c.args.r < length (system_of bs).rules = omega (arith, rules_long bs, c.requires.below) in
-    let own : c.entry_at-own.result.local ≡ local_in (record_of T c.args.k) x.machine = ap (λ (z : ℕ × ℕ). z.0) (entry_is T law _ c.args.k c.args.held.now c.requires.judging x.machine _ _ c.entry_at-own.ensures) in
+    let own : c.entry-own.result.local ≡ local_in (record_of T c.args.k) x.machine = ap (λ (z : ℕ × ℕ). z.0) (entry_is T law _ c.args.k c.args.held.now c.requires.judging x.machine _ _ c.entry-own.ensures) in
     λ o l a. not_from T law _ c.args.k c.args.held.now c.requires.judging c.requires.ready.proper c.args.r lt x (c.rule-stepper.ensures ∙ c.requires.planned.chained.rules c.args.r (omega arith) c.requires.below) (λ e. c.if-own-stepper.true (own ∙ e)) o a
 
 pub check_local-requires : goal.check_local-requires
@@ -41,7 +41,7 @@ check_local-requires g c =
     let law = g.met.A.QueueAbstraction.meaning p in
     let x = c.rule-stepper.result in
     let lt : c.args.r < length (system_of bs).rules = omega (arith, rules_long bs, c.requires.below) in
-    let own : c.entry_at-own.result.local ≡ local_in (record_of T c.args.k) x.machine = ap (λ (z : ℕ × ℕ). z.0) (entry_is T law _ c.args.k c.args.held.now c.requires.judging x.machine _ _ c.entry_at-own.ensures) in
+    let own : c.entry-own.result.local ≡ local_in (record_of T c.args.k) x.machine = ap (λ (z : ℕ × ℕ). z.0) (entry_is T law _ c.args.k c.args.held.now c.requires.judging x.machine _ _ c.entry-own.ensures) in
     let f = rule_fits (system_of bs) c.requires.ready.proper c.args.r lt x (c.rule-stepper.ensures ∙ c.requires.planned.chained.rules c.args.r (omega arith) c.requires.below) in
     record {
       ready = c.requires.ready;
@@ -60,7 +60,7 @@ check_take-requires g c =
     let law = g.met.A.QueueAbstraction.meaning p in
     let x = c.rule-stepper.result in
     let lt : c.args.r < length (system_of bs).rules = omega (arith, rules_long bs, c.requires.below) in
-    let own : c.entry_at-own.result.local ≡ local_in (record_of T c.args.k) x.machine = ap (λ (z : ℕ × ℕ). z.0) (entry_is T law _ c.args.k c.args.held.now c.requires.judging x.machine _ _ c.entry_at-own.ensures) in
+    let own : c.entry-own.result.local ≡ local_in (record_of T c.args.k) x.machine = ap (λ (z : ℕ × ℕ). z.0) (entry_is T law _ c.args.k c.args.held.now c.requires.judging x.machine _ _ c.entry-own.ensures) in
     let f = rule_fits (system_of bs) c.requires.ready.proper c.args.r lt x (c.rule-stepper.ensures ∙ c.requires.planned.chained.rules c.args.r (omega arith) c.requires.below) in
     record {
       ready = c.requires.ready;
@@ -79,7 +79,7 @@ check_send-requires g c =
     let law = g.met.A.QueueAbstraction.meaning p in
     let x = c.rule-stepper.result in
     let lt : c.args.r < length (system_of bs).rules = omega (arith, rules_long bs, c.requires.below) in
-    let own : c.entry_at-own.result.local ≡ local_in (record_of T c.args.k) x.machine = ap (λ (z : ℕ × ℕ). z.0) (entry_is T law _ c.args.k c.args.held.now c.requires.judging x.machine _ _ c.entry_at-own.ensures) in
+    let own : c.entry-own.result.local ≡ local_in (record_of T c.args.k) x.machine = ap (λ (z : ℕ × ℕ). z.0) (entry_is T law _ c.args.k c.args.held.now c.requires.judging x.machine _ _ c.entry-own.ensures) in
     let f = rule_fits (system_of bs) c.requires.ready.proper c.args.r lt x (c.rule-stepper.ensures ∙ c.requires.planned.chained.rules c.args.r (omega arith) c.requires.below) in
     let s = subst (ActionFits (system_of bs)) c.in-Send.is f.action in
     record {

@@ -17,8 +17,8 @@ returns-in_err-take_inside g c =
     let T = claim_of c.args.table.now.bytes.now c.args.set.now.bytes.now (q.bits p) (q.code p) (q.removals p) in
     let law = g.met.A.QueueAbstraction.meaning p in
     let xs = q.removals p (events_n c.args.table.now.bytes.now) (code_in (record_of T c.args.k) c.args.taker.machine) in
-    let own : c.entry_at-own.result.code ≡ code_in (record_of T c.args.k) c.args.taker.machine = ap (λ (z : ℕ × ℕ). z.1) (entry_is T law _ c.args.k c.args.held.now c.requires.judging c.args.taker.machine _ _ c.entry_at-own.ensures) in
-    let at : slice_get xs c.loop-taken.c ≡ Some (c.in-Some.taken, c.in-Some.left) = ap (λ (z : ℕ). slice_get (q.removals p (events_n c.args.table.now.bytes.now) z) c.loop-taken.c) (sym own) ∙ ap (λ (z : ℕ). slice_get (q.removals p z c.entry_at-own.result.code) c.loop-taken.c) (sym c.events-m.ensures) ∙ sym c.in-Some.ensures in
+    let own : c.entry-own.result.code ≡ code_in (record_of T c.args.k) c.args.taker.machine = ap (λ (z : ℕ × ℕ). z.1) (entry_is T law _ c.args.k c.args.held.now c.requires.judging c.args.taker.machine _ _ c.entry-own.ensures) in
+    let at : slice_get xs c.loop-taken.c ≡ Some (c.in-Some.taken, c.in-Some.left) = ap (λ (z : ℕ). slice_get (q.removals p (events_n c.args.table.now.bytes.now) z) c.loop-taken.c) (sym own) ∙ ap (λ (z : ℕ). slice_get (q.removals p z c.entry-own.result.code) c.loop-taken.c) (sym c.events-m.ensures) ∙ sym c.in-Some.ensures in
     let lt = nth_within xs c.loop-taken.c _ at in
     let e = err_from_is_err_and c.from_residual.result c.from_residual.ensures.1 in
     let b = c.in_err-take_inside.ensures in
@@ -31,8 +31,8 @@ overflow_add-c g c =
     let T = claim_of c.args.table.now.bytes.now c.args.set.now.bytes.now (q.bits p) (q.code p) (q.removals p) in
     let law = g.met.A.QueueAbstraction.meaning p in
     let xs = q.removals p (events_n c.args.table.now.bytes.now) (code_in (record_of T c.args.k) c.args.taker.machine) in
-    let own : c.entry_at-own.result.code ≡ code_in (record_of T c.args.k) c.args.taker.machine = ap (λ (z : ℕ × ℕ). z.1) (entry_is T law _ c.args.k c.args.held.now c.requires.judging c.args.taker.machine _ _ c.entry_at-own.ensures) in
-    let at : slice_get xs c.loop-taken.c ≡ Some (c.in-Some.taken, c.in-Some.left) = ap (λ (z : ℕ). slice_get (q.removals p (events_n c.args.table.now.bytes.now) z) c.loop-taken.c) (sym own) ∙ ap (λ (z : ℕ). slice_get (q.removals p z c.entry_at-own.result.code) c.loop-taken.c) (sym c.events-m.ensures) ∙ sym c.in-Some.ensures in
+    let own : c.entry-own.result.code ≡ code_in (record_of T c.args.k) c.args.taker.machine = ap (λ (z : ℕ × ℕ). z.1) (entry_is T law _ c.args.k c.args.held.now c.requires.judging c.args.taker.machine _ _ c.entry-own.ensures) in
+    let at : slice_get xs c.loop-taken.c ≡ Some (c.in-Some.taken, c.in-Some.left) = ap (λ (z : ℕ). slice_get (q.removals p (events_n c.args.table.now.bytes.now) z) c.loop-taken.c) (sym own) ∙ ap (λ (z : ℕ). slice_get (q.removals p z c.entry-own.result.code) c.loop-taken.c) (sym c.events-m.ensures) ∙ sym c.in-Some.ensures in
     let lt = nth_within xs c.loop-taken.c _ at in
     let f = few law (events_n c.args.table.now.bytes.now) (code_in (record_of T c.args.k) c.args.taker.machine) in
     record { fits = omega (arith, lt, f) }
@@ -44,8 +44,8 @@ loop-taken-smaller g c =
     let T = claim_of c.args.table.now.bytes.now c.args.set.now.bytes.now (q.bits p) (q.code p) (q.removals p) in
     let law = g.met.A.QueueAbstraction.meaning p in
     let xs = q.removals p (events_n c.args.table.now.bytes.now) (code_in (record_of T c.args.k) c.args.taker.machine) in
-    let own : c.entry_at-own.result.code ≡ code_in (record_of T c.args.k) c.args.taker.machine = ap (λ (z : ℕ × ℕ). z.1) (entry_is T law _ c.args.k c.args.held.now c.requires.judging c.args.taker.machine _ _ c.entry_at-own.ensures) in
-    let at : slice_get xs c.loop-taken.c ≡ Some (c.in-Some.taken, c.in-Some.left) = ap (λ (z : ℕ). slice_get (q.removals p (events_n c.args.table.now.bytes.now) z) c.loop-taken.c) (sym own) ∙ ap (λ (z : ℕ). slice_get (q.removals p z c.entry_at-own.result.code) c.loop-taken.c) (sym c.events-m.ensures) ∙ sym c.in-Some.ensures in
+    let own : c.entry-own.result.code ≡ code_in (record_of T c.args.k) c.args.taker.machine = ap (λ (z : ℕ × ℕ). z.1) (entry_is T law _ c.args.k c.args.held.now c.requires.judging c.args.taker.machine _ _ c.entry-own.ensures) in
+    let at : slice_get xs c.loop-taken.c ≡ Some (c.in-Some.taken, c.in-Some.left) = ap (λ (z : ℕ). slice_get (q.removals p (events_n c.args.table.now.bytes.now) z) c.loop-taken.c) (sym own) ∙ ap (λ (z : ℕ). slice_get (q.removals p z c.entry-own.result.code) c.loop-taken.c) (sym c.events-m.ensures) ∙ sym c.in-Some.ensures in
     let lt = nth_within xs c.loop-taken.c _ at in
     omega (arith, lt)
 
@@ -56,8 +56,8 @@ loop-taken-preserved g c =
     let T = claim_of c.args.table.now.bytes.now c.args.set.now.bytes.now (q.bits p) (q.code p) (q.removals p) in
     let law = g.met.A.QueueAbstraction.meaning p in
     let xs = q.removals p (events_n c.args.table.now.bytes.now) (code_in (record_of T c.args.k) c.args.taker.machine) in
-    let own : c.entry_at-own.result.code ≡ code_in (record_of T c.args.k) c.args.taker.machine = ap (λ (z : ℕ × ℕ). z.1) (entry_is T law _ c.args.k c.args.held.now c.requires.judging c.args.taker.machine _ _ c.entry_at-own.ensures) in
-    let at : slice_get xs c.loop-taken.c ≡ Some (c.in-Some.taken, c.in-Some.left) = ap (λ (z : ℕ). slice_get (q.removals p (events_n c.args.table.now.bytes.now) z) c.loop-taken.c) (sym own) ∙ ap (λ (z : ℕ). slice_get (q.removals p z c.entry_at-own.result.code) c.loop-taken.c) (sym c.events-m.ensures) ∙ sym c.in-Some.ensures in
+    let own : c.entry-own.result.code ≡ code_in (record_of T c.args.k) c.args.taker.machine = ap (λ (z : ℕ × ℕ). z.1) (entry_is T law _ c.args.k c.args.held.now c.requires.judging c.args.taker.machine _ _ c.entry-own.ensures) in
+    let at : slice_get xs c.loop-taken.c ≡ Some (c.in-Some.taken, c.in-Some.left) = ap (λ (z : ℕ). slice_get (q.removals p (events_n c.args.table.now.bytes.now) z) c.loop-taken.c) (sym own) ∙ ap (λ (z : ℕ). slice_get (q.removals p z c.entry-own.result.code) c.loop-taken.c) (sym c.events-m.ensures) ∙ sym c.in-Some.ensures in
     let lt = nth_within xs c.loop-taken.c _ at in
     (omega (arith, lt), below_more (λ j. Applies T (outside c.args.k c.args.r j) → ⊥) c.loop-taken.c c.loop-taken.invariant.1 c.in_ok-take_inside.ensures)
 
@@ -68,7 +68,7 @@ returns g c =
     let T = claim_of c.args.table.now.bytes.now c.args.set.now.bytes.now (q.bits p) (q.code p) (q.removals p) in
     let law = g.met.A.QueueAbstraction.meaning p in
     let xs = q.removals p (events_n c.args.table.now.bytes.now) (code_in (record_of T c.args.k) c.args.taker.machine) in
-    let own : c.entry_at-own.result.code ≡ code_in (record_of T c.args.k) c.args.taker.machine = ap (λ (z : ℕ × ℕ). z.1) (entry_is T law _ c.args.k c.args.held.now c.requires.judging c.args.taker.machine _ _ c.entry_at-own.ensures) in
-    let at : slice_get xs c.loop-taken.c ≡ None = ap (λ (z : ℕ). slice_get (q.removals p (events_n c.args.table.now.bytes.now) z) c.loop-taken.c) (sym own) ∙ ap (λ (z : ℕ). slice_get (q.removals p z c.entry_at-own.result.code) c.loop-taken.c) (sym c.events-m.ensures) ∙ sym c.in_default.ensures in
+    let own : c.entry-own.result.code ≡ code_in (record_of T c.args.k) c.args.taker.machine = ap (λ (z : ℕ × ℕ). z.1) (entry_is T law _ c.args.k c.args.held.now c.requires.judging c.args.taker.machine _ _ c.entry-own.ensures) in
+    let at : slice_get xs c.loop-taken.c ≡ None = ap (λ (z : ℕ). slice_get (q.removals p (events_n c.args.table.now.bytes.now) z) c.loop-taken.c) (sym own) ∙ ap (λ (z : ℕ). slice_get (q.removals p z c.entry-own.result.code) c.loop-taken.c) (sym c.events-m.ensures) ∙ sym c.in_default.ensures in
     let end = past xs c.loop-taken.c (0, 0) at in
     λ j h. c.loop-taken.invariant.1 j (omega (arith, end))

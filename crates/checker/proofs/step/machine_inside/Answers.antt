@@ -17,9 +17,9 @@ pub loop-r-init : goal.loop-r-init
 loop-r-init g c =
     let bs = c.args.table.now.bytes.now in
     let at = c.requires.planned.chained in
-    let x = cell_of c.args.i c.entry_at.result.local in
+    let x = cell_of c.args.i c.entry.result.local in
     let small : x < 256 = omega arith in
-    let same : x ≡ cell_of c.args.i (local_in (record_in c.args.held.now) c.args.i) = ap (λ (z : ℕ × ℕ). cell_of c.args.i z.0) c.entry_at.ensures in
+    let same : x ≡ cell_of c.args.i (local_in (record_in c.args.held.now) c.args.i) = ap (λ (z : ℕ × ℕ). cell_of c.args.i z.0) c.entry.ensures in
     let is = c.first-r.ensures in
     ((λ l. ap (cell_at bs) is ∙ at.headed x small (subst (λ (z : ℕ). z < rules_n bs) is l) ∙ same), (λ j l u e. absurd (at.heads x small j (omega arith) (subst (λ (z : ℕ). j < z) is l) u (e ∙ sym same))))
 

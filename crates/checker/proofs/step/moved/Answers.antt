@@ -13,9 +13,9 @@ returns g c =
     let bs = c.args.table.now.bytes.now in
     let T = claim_of bs c.args.set.now.bytes.now (q.bits p) (q.code p) (q.removals p) in
     let x = c.args.mover in
-    let e : record_in c.replaced.result ≡ moved_in x c.args.number (record_of T c.args.k) = c.replaced.ensures.is ∙ ap (λ (z : Record). set z x.machine (x.to, c.args.number)) c.requires.judging.is in
+    let e : record_in c.with.result ≡ moved_in x c.args.number (record_of T c.args.k) = c.with.ensures.is ∙ ap (λ (z : Record). set z x.machine (x.to, c.args.number)) c.requires.judging.is in
     record {
       is = e;
-      machines = c.replaced.ensures.machines ∙ c.requires.judging.machines;
+      machines = c.with.ensures.machines ∙ c.requires.judging.machines;
       sized = ap length e ∙ length-set (record_of T c.args.k) x.machine (x.to, c.args.number) ∙ c.requires.judging.sound.entries ∙ machines_long bs;
     }

@@ -1,7 +1,8 @@
-use Rattle.std.proofs.Common.{◌<◌, arith, below_more}
+use Rattle.std.proofs.Common.{◌<◌, sym, ◌∙◌, arith, below_more}
 use Rattle.std.proofs.lemmas.Result.{err_from_is_err_and}
 use Rattle.model.specs.System.{machines}
 use Rattle.checker.specs.SetFile.{claim_of}
+use Rattle.checker.proofs.Holding.{same_entry}
 use Rattle.checker.proofs.Deciding.{surprise_as_before}
 use Rattle.table.specs.SystemOf.{system_of}
 use Rattle.table.proofs.Parts.{machines_long}
@@ -19,8 +20,8 @@ loop-i-preserved g c = below_more _ c.loop-i.i c.loop-i.invariant c.in_ok-machin
 pub returns : goal.returns
 returns g c = λ j h. c.loop-i.invariant j (omega (arith, machines_long c.args.table.now.bytes.now, c.requires.judging.machines))
 
-pub loop-i-preserved-then-same_entry : goal.loop-i-preserved-then-same_entry
-loop-i-preserved-then-same_entry g c =
+pub loop-i-preserved-then-eq : goal.loop-i-preserved-then-eq
+loop-i-preserved-then-eq g c =
     let q = g.A.QueueAbstraction in
     let p = c.args.abstraction.now in
     let bs = c.args.table.now.bytes.now in
@@ -28,4 +29,4 @@ loop-i-preserved-then-same_entry g c =
     let lt : c.loop-i.i < machines (system_of bs) = omega (arith, machines_long bs, c.requires.judging.machines) in
     let calm = c.requires.calm (omega arith) in
     below_more _ c.loop-i.i c.loop-i.invariant (λ e le.
-    surprise_as_before T (g.met.A.QueueAbstraction.meaning p) _ c.args.k c.args.held.now c.requires.judging c.args.last.now c.loop-i.i e lt (c.same_entry.ensures c.if-same_entry.true) (calm.calm c.loop-i.i e lt le))
+    surprise_as_before T (g.met.A.QueueAbstraction.meaning p) _ c.args.k c.args.held.now c.requires.judging c.args.last.now c.loop-i.i e lt (sym c.entry.ensures ∙ same_entry c.entry.result c.entry-then-k-gt0.result (sym c.eq.ensures ∙ c.if-eq.true) ∙ c.entry-then-k-gt0.ensures) (calm.calm c.loop-i.i e lt le))
