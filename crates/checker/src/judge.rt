@@ -12,7 +12,7 @@ use crate::held::Held;
 use crate::hints::Hints;
 use crate::parts::machines;
 use crate::pattern::check_patterns;
-use crate::plan::{Plan, plan_of};
+use crate::plan::Plan;
 use crate::state_set::StateSet;
 use crate::step::check_steps;
 use crate::surprise::check_surprises;
@@ -54,7 +54,7 @@ pub(crate) fn check_records<A: QueueAbstraction>(
     requires sound { (k : ℕ) → k < records_n set.now.bytes.now → Sound (claim_of table.now.bytes.now set.now.bytes.now (A.bits abstraction.now) (A.code abstraction.now) (A.removals abstraction.now)) (record_of (claim_of table.now.bytes.now set.now.bytes.now (A.bits abstraction.now) (A.code abstraction.now) (A.removals abstraction.now)) k) }
     ensures { Judged (claim_of table.now.bytes.now set.now.bytes.now (A.bits abstraction.now) (A.code abstraction.now) (A.removals abstraction.now)) (judged (claim_of table.now.bytes.now set.now.bytes.now (A.bits abstraction.now) (A.code abstraction.now) (A.removals abstraction.now))) result }
 {
-    let plan = plan_of(table);
+    let plan = Plan::of(table);
     let mut hints = Hints::none();
     let n = machines(table);
     let mut last = Held::uniform(n, 0);

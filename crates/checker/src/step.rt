@@ -298,10 +298,10 @@ fn machine_inside<A: QueueAbstraction>(
     requires below { i < machines_n table.now.bytes.now }
     ensures { result ≡ true → (r : ℕ) → r < rules_n table.now.bytes.now → (rule_of (system_of table.now.bytes.now) r).machine ≡ i → Nothing (Applies (claim_of table.now.bytes.now set.now.bytes.now (A.bits abstraction.now) (A.code abstraction.now) (A.removals abstraction.now))) (outcomes_of (claim_of table.now.bytes.now set.now.bytes.now (A.bits abstraction.now) (A.code abstraction.now) (A.removals abstraction.now)) k r) }
 {
-    let mut r = plan.first(i, held.entry(i).local);
-    while r < plan.rule_count() {
+    let mut next = plan.first(i, held.entry(i).local);
+    while let Some(r) = next {
         match check_rule(table, set, abstraction, plan, hints, k, held, r) {
-            Ok(()) => r = plan.after(r),
+            Ok(()) => next = plan.after(r),
             Err(_) => return false,
         }
     }

@@ -25,7 +25,7 @@ check_record-requires g c =
     record {
       ready = c.requires.ready;
       rising = c.requires.rising;
-      planned = c.plan_of-plan.ensures;
+      planned = c.of-plan.ensures;
       judging = record {
         is = c.record-held.ensures.is ∙ ap (λ (z : ℕ). record_at z bs c.loop-k.k) c.machines-n.ensures ∙ sym (record_at_lem n bs c.loop-k.k lt);
         sound = c.requires.sound c.loop-k.k lt;
