@@ -1,8 +1,11 @@
 -- Runs of bytes in order, and the records that they are. Assumes nothing.
-use Rattle.std.proofs.Common.{◌≡◌, ℕ, zero, suc, ◌+◌, ◌-◌, ◌*◌, ◌/◌, ◌%◌, ◌^◌, ◌<◌, ◌≤◌, Bool, cond, List, length, get_or, sym, ap, ◌∙◌, subst, inl, inr, mul-le-mul_left, mul-suc, arith}
+use Rattle.std.proofs.Common.{◌≡◌, ℕ, zero, suc, ◌+◌, ◌-◌, ◌*◌, ◌/◌, ◌%◌, ◌^◌, ◌<◌, ◌≤◌, Bool, cond, List, length, get_or, sym, refl, ap, ◌∙◌, subst, inl, inr, mul-le-mul_left, mul-suc, arith, Ordering, nat_cmp}
+use Rattle.std.specs.Ordering.{MatchOrdering, ordering_then}
+use Rattle.std.specs.declared.cmp.Ordering.TheVariants.{Less, Equal, Greater}
+use Rattle.std.specs.Cmp.{ranks}
 use Rattle.std.proofs.lemmas.Bool.{cases_lt, cases_eq, ne_eqb}
 use Rattle.std.proofs.lemmas.List.FromFn.{fill_by_all, get_or-map-range_with_len}
-use Rattle.checker.specs.SetFile.{record_byte, byte_of, byte_in, Before, Same, long_at, record_at}
+use Rattle.checker.specs.SetFile.{record_byte, entry_byte, byte_of, byte_in, Before, Same, long_at, record_at}
 use Rattle.closed_sets.specs.Records.{Record, code_in}
 use Rattle.table.specs.Bytes.{word_at}
 
@@ -60,6 +63,9 @@ digit_6 a b c d e f g h ha hb hc hd he hf hg hh = omega arith
 
 digit_7 : (a b c d e f g h : ℕ) → a < 256 → b < 256 → c < 256 → d < 256 → e < 256 → f < 256 → g < 256 → h < 256 → (a + b * 256 + c * 256 ^ 2 + d * 256 ^ 3 + e * 256 ^ 4 + f * 256 ^ 5 + g * 256 ^ 6 + h * 256 ^ 7) / 2 ^ 56 % 256 ≡ h
 digit_7 a b c d e f g h ha hb hc hd he hf hg hh = omega arith
+
+long_small : (bs : List ℕ) → ((i : ℕ) → get_or bs i 0 < 256) → (o : ℕ) → long_at bs o < 2 ^ 64
+long_small bs bytes o = omega (arith, bytes o, bytes (o + 1), bytes (o + 2), bytes (o + 3), bytes (o + 4), bytes (o + 5), bytes (o + 6), bytes (o + 7))
 
 -- byte s of the entry that stands at o
 module _ (bs : List ℕ) (bytes : (i : ℕ) → get_or bs i 0 < 256) where
@@ -173,11 +179,11 @@ module _ (a b : ℕ) where
   pub swapped_before : swapped a < swapped b → Before 8 (digit a) (digit b)
   swapped_before h = number_before (digit a) (digit b) (digit_small a) (digit_small b) 8 (subst (λ (z : ℕ). z < number 8 (digit b)) (swapped_is a) (subst (λ (z : ℕ). swapped a < z) (swapped_is b) h))
 
-  pub swapped_apart : a < 2 ^ 64 → b < 2 ^ 64 → (a ≡ b → ⊥) → swapped a ≡ swapped b → ⊥
-  swapped_apart ha hb ne e =
+  pub swapped_same : a < 2 ^ 64 → b < 2 ^ 64 → swapped a ≡ swapped b → a ≡ b
+  swapped_same ha hb e =
       let s = number_same (digit a) (digit b) (digit_small a) (digit_small b) 8 (sym (swapped_is a) ∙ e ∙ swapped_is b) in
       let first : a % 256 ≡ b % 256 = low (s 0 (omega arith)) in
-      ne (sym (digits a ha) ∙ alike _ _ _ _ _ _ _ _ _ _ _ _ _ _ _ _ first (s 1 (omega arith)) (s 2 (omega arith)) (s 3 (omega arith)) (s 4 (omega arith)) (s 5 (omega arith)) (s 6 (omega arith)) (s 7 (omega arith)) ∙ digits b hb)
+      sym (digits a ha) ∙ alike _ _ _ _ _ _ _ _ _ _ _ _ _ _ _ _ first (s 1 (omega arith)) (s 2 (omega arith)) (s 3 (omega arith)) (s 4 (omega arith)) (s 5 (omega arith)) (s 6 (omega arith)) (s 7 (omega arith)) ∙ digits b hb
     where
       low : a / 1 % 256 ≡ b / 1 % 256 → a % 256 ≡ b % 256
       low e = omega arith
@@ -219,3 +225,36 @@ module _ (n i : ℕ) (f g p q : ℕ → ℕ) (h : i < n) (same : Same (9 * i) f 
         | inl lt ↦ same t lt
         | inr ge ↦ (let k : 9 * i + (t - 9 * i) ≡ t = omega arith in subst (λ (z : ℕ). f z ≡ g z) k (fp (t - 9 * i) (omega arith) ∙ e (t - 9 * i) (omega arith) ∙ sym (gq (t - 9 * i) (omega arith))))
       ]
+
+-- the entry that stands at o and another, compared by their local states and then by their swapped codes
+module _ (bs : List ℕ) (bytes : (i : ℕ) → get_or bs i 0 < 256) (o m b : ℕ) (small : b < 2 ^ 64) where
+  Stands : Ordering → Type 0
+  Stands x = MatchOrdering x (Before 9 (entry_byte bs o) (byte_in (m, b))) (Same 9 (entry_byte bs o) (byte_in (m, b)) × (b < 2 ^ 64)) (Before 9 (byte_in (m, b)) (entry_byte bs o))
+
+  by_code : (x : Ordering) → get_or bs o 0 ≡ m → MatchOrdering x (swapped (long_at bs (o + 1)) < swapped b) (swapped (long_at bs (o + 1)) ≡ swapped b) (swapped b < swapped (long_at bs (o + 1))) → Stands x
+  unfolding Stands
+  by_code Less e h = before_left 9 (byte_in (get_or bs o 0, long_at bs (o + 1))) (byte_in (m, b)) (entry_byte bs o) (codes_before (get_or bs o 0) m (long_at bs (o + 1)) b e (swapped_before (long_at bs (o + 1)) b h)) (byte_is bs bytes o)
+  by_code Equal e h = ((λ t l. byte_is bs bytes o t l ∙ ap (λ (z : ℕ). byte_in (z, long_at bs (o + 1)) t) e ∙ ap (λ (z : ℕ). byte_in (m, z) t) (swapped_same (long_at bs (o + 1)) b (long_small bs bytes (o + 1)) small h)), small)
+  by_code Greater e h = before_right 9 (byte_in (m, b)) (byte_in (get_or bs o 0, long_at bs (o + 1))) (entry_byte bs o) (codes_before m (get_or bs o 0) b (long_at bs (o + 1)) (sym e) (swapped_before b (long_at bs (o + 1)) h)) (byte_is bs bytes o)
+
+  first : entry_byte bs o 0 ≡ get_or bs o 0
+  first = ap (λ (z : ℕ). get_or bs z 0) (omega arith)
+
+  first_in : byte_in (m, b) 0 ≡ m
+  first_in = refl
+
+  by_local : (x : Ordering) → MatchOrdering x (get_or bs o 0 < m) (get_or bs o 0 ≡ m) (m < get_or bs o 0) → Stands (ordering_then x (nat_cmp (swapped (long_at bs (o + 1))) (swapped b)))
+  unfolding Stands
+  by_local Less h = (0, omega arith, (λ t l. absurd (omega (arith, l))), omega (arith, h, first, first_in))
+  by_local Equal h = by_code (nat_cmp (swapped (long_at bs (o + 1))) (swapped b)) h (ranks (swapped (long_at bs (o + 1))) (swapped b))
+  by_local Greater h = (0, omega arith, (λ t l. absurd (omega (arith, l))), omega (arith, h, first, first_in))
+
+  pub entry_stands : (x : Ordering) → x ≡ ordering_then (nat_cmp (get_or bs o 0) m) (nat_cmp (swapped (long_at bs (o + 1))) (swapped b)) → MatchOrdering x (Before 9 (entry_byte bs o) (byte_in (m, b))) (Same 9 (entry_byte bs o) (byte_in (m, b)) × (b < 2 ^ 64)) (Before 9 (byte_in (m, b)) (entry_byte bs o))
+  unfolding Stands
+  entry_stands x e = subst Stands (sym e) (by_local (nat_cmp (get_or bs o 0) m) (ranks (get_or bs o 0) m))
+
+-- an answer that is not Equal is one of the other two
+pub apart : {P P' R R' : Type 0} (Q Q' : Type 0) (x : Ordering) → (x ≡ Equal → ⊥) → (P → P') → (R → R') → MatchOrdering x P Q R → MatchOrdering x P' Q' R'
+apart Q Q' Less ne f g h = f h
+apart Q Q' Equal ne f g h = absurd (ne refl)
+apart Q Q' Greater ne f g h = g h

@@ -1,7 +1,8 @@
 // What is judged: a case, its set once that is in good form, and one record of the set.
 ghost use Rattle.table.specs.Layout.{machines_n};
 ghost use Rattle.checker.specs.Plan.{Planned};
-ghost use Rattle.checker.specs.Ready.{Ready, ready_prop, set_ready_prop};
+ghost use Rattle.checker.specs.Props.{ready_prop, set_ready_prop, planned_prop};
+ghost use Rattle.checker.specs.Ready.{Ready};
 ghost use Rattle.checker.specs.SetFile.{SetReady};
 
 use crate::held::Held;
@@ -24,7 +25,7 @@ pub(crate) struct Judge<'a, A> {
     pub(crate) case: &'a Case<'a, A>,
     pub(crate) plan: Plan,
     ghost rising: { SetReady (machines_n case.now.table.bytes.now) case.now.set.bytes.now } by { set_ready_prop (machines_n case.now.table.bytes.now) case.now.set.bytes.now },
-    ghost planned: { Planned case.now.table.bytes.now plan },
+    ghost planned: { Planned case.now.table.bytes.now plan } by { planned_prop case.now.table.bytes.now plan },
 }
 
 // Record `k` of the set, as it is held. That it is sound is asked of callers: a good code names some queue, and a ghost

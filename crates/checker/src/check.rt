@@ -9,7 +9,7 @@ ghost use Rattle.checker.specs.Verdict.{closed_order, set_order};
 
 use crate::case::{Case, Judge};
 use crate::pass::{FULL_CAPACITY, Pass};
-use crate::plan::plan_of;
+use crate::plan::Plan;
 use crate::state_set::StateSet;
 use abstraction::QueueAbstraction;
 use model::fault::{Fault, Refusal};
@@ -39,7 +39,7 @@ impl<A: QueueAbstraction> Case<'_, A> {
         self.check_form()?;
         let judge = Judge {
             case: self,
-            plan: plan_of(&self.table),
+            plan: Plan::of(&self.table),
         };
         judge.check_closed()
     }

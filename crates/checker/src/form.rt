@@ -15,7 +15,7 @@ ghost use Rattle.checker.specs.SetFile.{records_n, record_byte, Before, SetReady
 ghost use Rattle.checker.specs.Verdict.{bounds, field, HeaderApplies, header_numbers, header_order, Applies, numbers, form_of, form_order};
 
 use crate::case::{Case, Judge};
-use crate::held::{Entry, Held, entry_at, uniform};
+use crate::held::{Entry, Held};
 use crate::parts::{events, local_states, machines};
 use abstraction::QueueAbstraction;
 use model::fault::{Fault, Refusal};
@@ -80,7 +80,7 @@ impl<A: QueueAbstraction> Case<'_, A> {
         ensures { Decides result (Sound (claim A.QueueAbstraction self.now) (record_of (claim A.QueueAbstraction self.now) k)) }
     {
         for i in 0..held.machines {
-            if !self.entry_sound(i, entry_at(held, i)) {
+            if !self.entry_sound(i, held.entry(i)) {
                 return false;
             }
         }
@@ -135,7 +135,7 @@ impl<A: QueueAbstraction> Judge<'_, A> {
         ensures { Decides result (Represented (claim A.QueueAbstraction self.now.case.now) (start (system_of self.now.case.now.table.bytes.now))) }
     {
         let case = self.case;
-        let held = uniform(machines(&case.table), case.abstraction.empty());
+        let held = Held::uniform(machines(&case.table), case.abstraction.empty());
         case.set.contains(&held)
     }
 }

@@ -6,7 +6,7 @@ ghost use Rattle.checker.specs.Case.{claim, claim_at, table_at, AllSound, IsSoun
 ghost use Rattle.checker.specs.Inner.{Calm};
 
 use crate::case::{Judge, Judgement};
-use crate::held::{Held, uniform};
+use crate::held::Held;
 use crate::hints::Hints;
 use crate::parts::machines;
 use abstraction::QueueAbstraction;
@@ -33,7 +33,7 @@ impl<A: QueueAbstraction> Judge<'_, A> {
     {
         let n = machines(&self.case.table);
         let mut hints = Hints::none();
-        let mut last = uniform(n, 0);
+        let mut last = Held::uniform(n, 0);
         for k in 0..self.case.set.record_count() {
             let held = self.case.set.record(n, k);
             let judgement = Judgement {

@@ -11,7 +11,6 @@ ghost use Rattle.checker.specs.Case.{claim_at, table_at, IsSound, Finds};
 ghost use Rattle.checker.specs.Inner.{Keeps};
 
 use crate::case::Judgement;
-use crate::held::entry_at;
 use crate::hints::Hints;
 use crate::parts::events;
 use abstraction::QueueAbstraction;
@@ -33,7 +32,7 @@ impl<A: QueueAbstraction> Judgement<'_, A> {
         ensures { Decides result (MayHold (claim_at A.QueueAbstraction self.now) (record_of (claim_at A.QueueAbstraction self.now) self.now.k) condition) }
     {
         let case = self.judge.case;
-        let entry = entry_at(&self.held, condition.machine);
+        let entry = self.held.entry(condition.machine);
         if !local_is(condition.local, entry.local) {
             return false;
         }

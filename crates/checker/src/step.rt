@@ -15,7 +15,7 @@ ghost use Rattle.checker.specs.Inner.{Enabled, Inside};
 ghost use Rattle.checker.specs.SetFile.{records_of};
 
 use crate::case::Judgement;
-use crate::held::{Entry, Held, entry_at, replaced};
+use crate::held::{Entry, Held};
 use crate::hints::Hints;
 use crate::parts::events;
 use abstraction::QueueAbstraction;
@@ -32,8 +32,7 @@ struct Numbered {
 impl<A: QueueAbstraction> Judgement<'_, A> {
     // Whether the record that outcome `c` of rule `r` leads to stands in the set.
     fn inside(&self, hints: &mut Hints, r: u16, c: u64, target: &Held) -> Result<(), Fault>
-        requires machines { target.now.machines ≡ machines_n (table_at self.now) }
-        requires sized { length (record_in target.now) ≡ machines_n (table_at self.now) }
+        requires { target.now.machines ≡ machines_n (table_at self.now) }
         ensures { Inside (records_of (machines_n (table_at self.now)) (set_at self.now)) (record_in target.now) self.now.k r c result }
     {
         match self.judge.case.set.find(target, hints.place(self.k, r, c)) {
@@ -56,10 +55,8 @@ impl<A: QueueAbstraction> Judgement<'_, A> {
         requires below { mover.machine < machines_n (table_at self.now) }
         ensures is { record_in result ≡ moved_in mover code (record_of (claim_at A.QueueAbstraction self.now) self.now.k) }
         ensures machines { result.machines ≡ machines_n (table_at self.now) }
-        ensures sized { length (record_in result) ≡ machines_n (table_at self.now) }
     {
-        replaced(
-            &self.held,
+        self.held.with(
             mover.machine,
             Entry {
                 local: mover.to,
@@ -75,7 +72,7 @@ impl<A: QueueAbstraction> Judgement<'_, A> {
         requires below { mover.rule.machine < machines_n (table_at self.now) }
         ensures { Finds A.QueueAbstraction self.now (one (outside self.now.k mover.r 0)) result }
     {
-        let own = entry_at(&self.held, mover.rule.machine);
+        let own = self.held.entry(mover.rule.machine);
         self.inside(hints, mover.r, 0, &self.moved(mover.rule, own.code))
     }
 
@@ -110,7 +107,7 @@ impl<A: QueueAbstraction> Judgement<'_, A> {
     {
         let case = self.judge.case;
         let m = events(&case.table);
-        let own = entry_at(&self.held, taker.rule.machine);
+        let own = self.held.entry(taker.rule.machine);
         let mut c = 0;
         while let Some(removal) = case.abstraction.removal(m, own.code, c) {
             self.take_inside(hints, taker, event, c, removal)?;
@@ -135,8 +132,8 @@ impl<A: QueueAbstraction> Judgement<'_, A> {
         ensures { Finds A.QueueAbstraction self.now (one (outside self.now.k sender.r 0)) result }
     {
         let case = self.judge.case;
-        let own = entry_at(&self.held, sender.rule.machine);
-        let there = entry_at(&self.held, target);
+        let own = self.held.entry(sender.rule.machine);
+        let there = self.held.entry(target);
         let Some(longer) = case
             .abstraction
             .append(events(&case.table), there.code, event)
@@ -144,9 +141,8 @@ impl<A: QueueAbstraction> Judgement<'_, A> {
             return Ok(());
         };
         let next = self.moved(sender.rule, own.code);
-        let local = entry_at(&next, target).local;
-        let sent = replaced(
-            &next,
+        let local = next.entry(target).local;
+        let sent = next.with(
             target,
             Entry {
                 local,
@@ -163,7 +159,7 @@ impl<A: QueueAbstraction> Judgement<'_, A> {
         ensures { Finds A.QueueAbstraction self.now (outcomes_of (claim_at A.QueueAbstraction self.now) self.now.k r) result }
     {
         let rule = self.judge.plan.rule(r);
-        let own = entry_at(&self.held, rule.machine);
+        let own = self.held.entry(rule.machine);
         if own.local != rule.from {
             return Ok(());
         }
@@ -182,10 +178,10 @@ impl<A: QueueAbstraction> Judgement<'_, A> {
         ensures { result ≡ true → (r : ℕ) → r < rules_n (table_at self.now) → (rule_of (system_of (table_at self.now)) r).machine ≡ i → Nothing (Applies (claim_at A.QueueAbstraction self.now)) (outcomes_of (claim_at A.QueueAbstraction self.now) self.now.k r) }
     {
         let plan = &self.judge.plan;
-        let mut r = plan.first(i, entry_at(&self.held, i).local);
-        while r < plan.rule_count() {
+        let mut next = plan.first(i, self.held.entry(i).local);
+        while let Some(r) = next {
             match self.check_rule(hints, r) {
-                Ok(()) => r = plan.after(r),
+                Ok(()) => next = plan.after(r),
                 Err(_) => return false,
             }
         }

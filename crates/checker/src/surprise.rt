@@ -7,7 +7,7 @@ ghost use Rattle.checker.specs.Case.{claim_at, table_at, IsSound, Finds};
 ghost use Rattle.checker.specs.Inner.{Calm};
 
 use crate::case::Judgement;
-use crate::held::{Held, entry_at, same_entry};
+use crate::held::Held;
 use crate::parts::{events, no_take};
 use abstraction::QueueAbstraction;
 use model::fault::{Fault, Refusal};
@@ -21,7 +21,7 @@ impl<A: QueueAbstraction> Judgement<'_, A> {
         ensures { Decides result (Applies (claim_at A.QueueAbstraction self.now) (surprise self.now.k i e)) }
     {
         let case = self.judge.case;
-        let entry = entry_at(&self.held, i);
+        let entry = self.held.entry(i);
         if self.judge.plan.has_taker(&case.table, i, entry.local, e) {
             return false;
         }
@@ -60,7 +60,7 @@ impl<A: QueueAbstraction> Judgement<'_, A> {
         ensures { Finds A.QueueAbstraction self.now (surprises (claim_at A.QueueAbstraction self.now) self.now.k) result }
     {
         for i in 0..self.held.machines {
-            if self.k > 0 && same_entry(&self.held, last, i) {
+            if self.k > 0 && self.held.entry(i) == last.entry(i) {
                 continue;
             }
             self.machine_surprises(i)?;

@@ -38,7 +38,6 @@ stands_above-requires g c =
     let k = c.args.k in
     let in-set : 16 + 9 * n * (k - 1) + 9 * n ≤ length bs = omega (arith, room (9 * n) (k - 1) (word_at bs 10) (omega (arith, c.requires.below)), c.requires.long) in
     record {
-      few = omega (arith, m, c.args.self.now.ready.few);
       some = omega arith;
       long = subst (λ (z : ℕ). 16 + 9 * z * (k - 1) + 9 * z ≤ length bs) (sym m) in-set;
       is = c.record-held.ensures.is ∙ ap (λ (z : ℕ). record_at z bs k) (sym c.record-held.ensures.machines);

@@ -16,7 +16,7 @@ returns-then-not-entry_sound g c =
     let p = c.args.self.now.abstraction.now in
     let bs = c.args.self.now.table.bytes.now in
     let i = c.loop-i.i in
-    let e = c.entry_at.ensures ∙ ap (λ (z : Record). get_or z i (0, 0)) c.requires.is in
+    let e = c.entry.ensures ∙ ap (λ (z : Record). get_or z i (0, 0)) c.requires.is in
     let lt : i < machines (system_of bs) = omega (arith, machines_long bs, c.requires.machines) in
     decides_false (λ s. not_from_Decides _ c.entry_sound.ensures c.if-not-entry_sound.true (
       subst (λ (z : ℕ × ℕ). z.0 < states_of (system_of bs) i) (sym e) (s.locals i lt),

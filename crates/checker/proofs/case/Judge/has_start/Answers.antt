@@ -15,12 +15,7 @@ use Rattle.checker.proofs.case.Judge.has_start.Goals as goal
 
 pub contains-requires : goal.contains-requires
 contains-requires g c =
-    let m = c.uniform-held.ensures.machines in
-    record {
-      few = omega (arith, m, c.machines.ensures, c.args.self.now.case.now.ready.few);
-      sized = ap length c.uniform-held.ensures.is ∙ length-replicate c.machines.result _ ∙ sym m;
-      ready = subst (λ (z : ℕ). SetReady z c.args.self.now.case.now.set.bytes.now) (sym (m ∙ c.machines.ensures)) c.args.self.now.rising;
-    }
+    subst (λ (z : ℕ). SetReady z c.args.self.now.case.now.set.bytes.now) (sym (c.uniform-held.ensures.machines ∙ c.machines.ensures)) c.args.self.now.rising
 
 pub returns : goal.returns
 returns g c =

@@ -8,14 +8,14 @@ use Rattle.table.specs.SystemOf.{system_of}
 use Rattle.checker.specs.Case.{claim_at, table_at}
 use Rattle.checker.proofs.case.Judgement.check_rule.Goals as goal
 
-pub entry_at-own-requires : goal.entry_at-own-requires
-entry_at-own-requires g c =
+pub entry-own-requires : goal.entry-own-requires
+entry-own-requires g c =
     let bs = table_at c.args.self.now in
     let x = c.rule-rule.result in
     let is = c.rule-rule.ensures ∙ c.args.self.now.judge.now.planned.chained.rules c.args.r (omega arith) c.requires.below in
     let lt : c.args.r < length (system_of bs).rules = omega (arith, rules_long bs, c.requires.below) in
     let f = rule_fits (system_of bs) c.args.self.now.judge.now.case.now.ready.proper c.args.r lt x is in
-    record { few = omega (arith, c.requires.sound.machines, c.args.self.now.judge.now.case.now.ready.few); below = omega (arith, f.machine, machines_long bs, c.requires.sound.machines) }
+    omega (arith, f.machine, machines_long bs, c.requires.sound.machines)
 
 pub returns-then-own-rule : goal.returns-then-own-rule
 returns-then-own-rule g c =
@@ -26,7 +26,7 @@ returns-then-own-rule g c =
     let x = c.rule-rule.result in
     let is = c.rule-rule.ensures ∙ c.args.self.now.judge.now.planned.chained.rules c.args.r (omega arith) c.requires.below in
     let lt : c.args.r < length (system_of bs).rules = omega (arith, rules_long bs, c.requires.below) in
-    let own : c.entry_at-own.result.local ≡ local_in (record_of T c.args.self.now.k) x.machine = ap (λ (z : ℕ × ℕ). z.0) (entry_is T law _ c.args.self.now.k c.args.self.now.held c.requires.sound x.machine _ _ c.entry_at-own.ensures) in
+    let own : c.entry-own.result.local ≡ local_in (record_of T c.args.self.now.k) x.machine = ap (λ (z : ℕ × ℕ). z.0) (entry_is T law _ c.args.self.now.k c.args.self.now.held c.requires.sound x.machine _ _ c.entry-own.ensures) in
     λ o l a. not_from T law _ c.args.self.now.k c.args.self.now.held c.requires.sound c.args.self.now.judge.now.case.now.ready.proper c.args.r lt x is (λ e. c.if-own-rule.true (own ∙ e)) o a
 
 pub check_local-requires : goal.check_local-requires
@@ -41,7 +41,7 @@ check_local-requires g c =
     let f = rule_fits (system_of bs) c.args.self.now.judge.now.case.now.ready.proper c.args.r lt x is in
     record {
       sound = c.requires.sound;
-      enabled = enabled_at T law _ c.args.self.now.k c.args.self.now.held c.requires.sound c.args.r x Local _ _ lt is c.entry_at-own.ensures c.if-own-rule.false c.in-Local.is;
+      enabled = enabled_at T law _ c.args.self.now.k c.args.self.now.held c.requires.sound c.args.r x Local _ _ lt is c.entry-own.ensures c.if-own-rule.false c.in-Local.is;
       below = omega (arith, f.machine, machines_long bs);
     }
 
@@ -57,7 +57,7 @@ check_take-requires g c =
     let f = rule_fits (system_of bs) c.args.self.now.judge.now.case.now.ready.proper c.args.r lt x is in
     record {
       sound = c.requires.sound;
-      enabled = enabled_at T law _ c.args.self.now.k c.args.self.now.held c.requires.sound c.args.r x (Take c.in-Take.event) _ _ lt is c.entry_at-own.ensures c.if-own-rule.false c.in-Take.is;
+      enabled = enabled_at T law _ c.args.self.now.k c.args.self.now.held c.requires.sound c.args.r x (Take c.in-Take.event) _ _ lt is c.entry-own.ensures c.if-own-rule.false c.in-Take.is;
       below = omega (arith, f.machine, machines_long bs);
     }
 
@@ -74,7 +74,7 @@ check_send-requires g c =
     let s = subst (ActionFits (system_of bs)) c.in-Send.is f.action in
     record {
       sound = c.requires.sound;
-      enabled = enabled_at T law _ c.args.self.now.k c.args.self.now.held c.requires.sound c.args.r x (Send c.in-Send.event c.in-Send.target) _ _ lt is c.entry_at-own.ensures c.if-own-rule.false c.in-Send.is;
+      enabled = enabled_at T law _ c.args.self.now.k c.args.self.now.held c.requires.sound c.args.r x (Send c.in-Send.event c.in-Send.target) _ _ lt is c.entry-own.ensures c.if-own-rule.false c.in-Send.is;
       below = omega (arith, f.machine, machines_long bs);
       there = omega (arith, s.1, machines_long bs);
       named = s.0;

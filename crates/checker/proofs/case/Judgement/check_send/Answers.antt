@@ -15,10 +15,7 @@ use Rattle.checker.proofs.case.Judgement.check_send.Goals as goal
 
 pub inside-requires : goal.inside-requires
 inside-requires g c =
-    record {
-      machines = c.replaced-sent.ensures.machines ∙ c.moved-next.ensures.machines;
-      sized = ap length c.replaced-sent.ensures.is ∙ length-set (record_in c.moved-next.result) c.args.target _ ∙ c.moved-next.ensures.sized;
-    }
+    c.with-sent.ensures.machines ∙ c.moved-next.ensures.machines
 
 pub returns-in_default : goal.returns-in_default
 returns-in_default g c =
@@ -30,9 +27,9 @@ returns-in_default g c =
     let x = c.args.sender.rule in
     let t = c.args.target in
     let r = record_of T c.args.self.now.k in
-    let there : c.entry_at-there.result.code ≡ code_in r t = ap (λ (z : ℕ × ℕ). z.1) (entry_is T law _ c.args.self.now.k c.args.self.now.held c.requires.sound t _ _ c.entry_at-there.ensures) in
+    let there : c.entry-there.result.code ≡ code_in r t = ap (λ (z : ℕ × ℕ). z.1) (entry_is T law _ c.args.self.now.k c.args.self.now.held c.requires.sound t _ _ c.entry-there.ensures) in
     let lt : t < machines (system_of bs) = omega (arith, machines_long bs, c.requires.there) in
-    let good = subst (λ (z : ℕ). Good (q.bits p) (q.code p) z c.entry_at-there.result.code) (sym c.events.ensures) (subst (λ (z : ℕ). Good (q.bits p) (q.code p) (events_n bs) z) (sym there) (c.requires.sound.sound.good t lt)) in
+    let good = subst (λ (z : ℕ). Good (q.bits p) (q.code p) z c.entry-there.result.code) (sym c.events.ensures) (subst (λ (z : ℕ). Good (q.bits p) (q.code p) (events_n bs) z) (sym there) (c.requires.sound.sound.good t lt)) in
     absurd (c.in_default.ensures good (omega (arith, c.events.ensures, c.requires.named)))
 
 pub returns : goal.returns
@@ -45,12 +42,12 @@ returns g c =
     let x = c.args.sender.rule in
     let t = c.args.target in
     let r = record_of T c.args.self.now.k in
-    let there : c.entry_at-there.result.code ≡ code_in r t = ap (λ (z : ℕ × ℕ). z.1) (entry_is T law _ c.args.self.now.k c.args.self.now.held c.requires.sound t _ _ c.entry_at-there.ensures) in
-    let own : c.entry_at-own.result.code ≡ code_in r x.machine = ap (λ (z : ℕ × ℕ). z.1) (entry_is T law _ c.args.self.now.k c.args.self.now.held c.requires.sound x.machine _ _ c.entry_at-own.ensures) in
+    let there : c.entry-there.result.code ≡ code_in r t = ap (λ (z : ℕ × ℕ). z.1) (entry_is T law _ c.args.self.now.k c.args.self.now.held c.requires.sound t _ _ c.entry-there.ensures) in
+    let own : c.entry-own.result.code ≡ code_in r x.machine = ap (λ (z : ℕ × ℕ). z.1) (entry_is T law _ c.args.self.now.k c.args.self.now.held c.requires.sound x.machine _ _ c.entry-own.ensures) in
     let d = c.in-Some.longer in
     let next = record_in c.moved-next.result in
-    judged_inside T law _ c.args.self.now.k c.args.self.now.held c.requires.sound c.args.self.now.judge.now.case.now.ready.proper c.args.sender.r x (Send c.args.event t) c.requires.enabled 0 (sent_in t d (moved_in x (code_in r x.machine) r)) (record_in c.replaced-sent.result) (records_of (machines_n (table_at c.args.self.now)) (set_at c.args.self.now)) c.inside.result
+    judged_inside T law _ c.args.self.now.k c.args.self.now.held c.requires.sound c.args.self.now.judge.now.case.now.ready.proper c.args.sender.r x (Send c.args.event t) c.requires.enabled 0 (sent_in t d (moved_in x (code_in r x.machine) r)) (record_in c.with-sent.result) (records_of (machines_n (table_at c.args.self.now)) (set_at c.args.self.now)) c.inside.result
     (d, refl, appends_as (q.code p) _ _ _ _ c.args.event d c.events.ensures there c.in-Some.ensures.2, refl)
     refl
-    (c.replaced-sent.ensures.is ∙ ap (λ (z : ℕ × ℕ). set next t (z.0, d)) c.entry_at-local.ensures ∙ ap (sent_in t d) (c.moved-next.ensures.is ∙ ap (λ (z : ℕ). moved_in x z r) own))
+    (c.with-sent.ensures.is ∙ ap (λ (z : ℕ × ℕ). set next t (z.0, d)) c.entry-local.ensures ∙ ap (sent_in t d) (c.moved-next.ensures.is ∙ ap (λ (z : ℕ). moved_in x z r) own))
     c.inside.ensures

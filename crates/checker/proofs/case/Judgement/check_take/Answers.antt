@@ -15,7 +15,7 @@ returns-in_err-take_inside g c =
     let T = claim_at g.A.QueueAbstraction c.args.self.now in
     let law = g.met.A.QueueAbstraction.meaning p in
     let i = c.args.taker.rule.machine in
-    let at = removal_at T law _ c.args.self.now.k c.args.self.now.held c.requires.sound i _ _ _ c.loop-removal.c _ c.entry_at-own.ensures c.events-m.ensures c.in-Some.ensures in
+    let at = removal_at T law _ c.args.self.now.k c.args.self.now.held c.requires.sound i _ _ _ c.loop-removal.c _ c.entry-own.ensures c.events-m.ensures c.in-Some.ensures in
     let lt = nth_within _ c.loop-removal.c _ at in
     let e = err_from_is_err_and c.from_residual.result c.from_residual.ensures.1 in
     let b = c.in_err-take_inside.ensures in
@@ -27,7 +27,7 @@ overflow_add-c g c =
     let T = claim_at g.A.QueueAbstraction c.args.self.now in
     let law = g.met.A.QueueAbstraction.meaning p in
     let i = c.args.taker.rule.machine in
-    let at = removal_at T law _ c.args.self.now.k c.args.self.now.held c.requires.sound i _ _ _ c.loop-removal.c _ c.entry_at-own.ensures c.events-m.ensures c.in-Some.ensures in
+    let at = removal_at T law _ c.args.self.now.k c.args.self.now.held c.requires.sound i _ _ _ c.loop-removal.c _ c.entry-own.ensures c.events-m.ensures c.in-Some.ensures in
     let lt = nth_within _ c.loop-removal.c _ at in
     let f = few law (events_n (table_at c.args.self.now)) (code_in (record_of T c.args.self.now.k) i) in
     record { fits = omega (arith, lt, f) }
@@ -38,7 +38,7 @@ loop-removal-smaller g c =
     let T = claim_at g.A.QueueAbstraction c.args.self.now in
     let law = g.met.A.QueueAbstraction.meaning p in
     let i = c.args.taker.rule.machine in
-    let at = removal_at T law _ c.args.self.now.k c.args.self.now.held c.requires.sound i _ _ _ c.loop-removal.c _ c.entry_at-own.ensures c.events-m.ensures c.in-Some.ensures in
+    let at = removal_at T law _ c.args.self.now.k c.args.self.now.held c.requires.sound i _ _ _ c.loop-removal.c _ c.entry-own.ensures c.events-m.ensures c.in-Some.ensures in
     let lt = nth_within _ c.loop-removal.c _ at in
     omega (arith, lt)
 
@@ -48,7 +48,7 @@ loop-removal-preserved g c =
     let T = claim_at g.A.QueueAbstraction c.args.self.now in
     let law = g.met.A.QueueAbstraction.meaning p in
     let i = c.args.taker.rule.machine in
-    let at = removal_at T law _ c.args.self.now.k c.args.self.now.held c.requires.sound i _ _ _ c.loop-removal.c _ c.entry_at-own.ensures c.events-m.ensures c.in-Some.ensures in
+    let at = removal_at T law _ c.args.self.now.k c.args.self.now.held c.requires.sound i _ _ _ c.loop-removal.c _ c.entry-own.ensures c.events-m.ensures c.in-Some.ensures in
     let lt = nth_within _ c.loop-removal.c _ at in
     (omega (arith, lt), below_more (λ j. Applies T (outside c.args.self.now.k c.args.taker.r j) → ⊥) c.loop-removal.c c.loop-removal.invariant.1 c.in_ok-take_inside.ensures)
 
@@ -58,7 +58,7 @@ take_inside-requires g c =
     let T = claim_at g.A.QueueAbstraction c.args.self.now in
     let law = g.met.A.QueueAbstraction.meaning p in
     let i = c.args.taker.rule.machine in
-    let at = removal_at T law _ c.args.self.now.k c.args.self.now.held c.requires.sound i _ _ _ c.loop-removal.c _ c.entry_at-own.ensures c.events-m.ensures c.in-Some.ensures in
+    let at = removal_at T law _ c.args.self.now.k c.args.self.now.held c.requires.sound i _ _ _ c.loop-removal.c _ c.entry-own.ensures c.events-m.ensures c.in-Some.ensures in
     record { sound = c.requires.sound; enabled = c.requires.enabled; below = c.requires.below; removal = at }
 
 pub returns : goal.returns
@@ -67,6 +67,6 @@ returns g c =
     let T = claim_at g.A.QueueAbstraction c.args.self.now in
     let law = g.met.A.QueueAbstraction.meaning p in
     let i = c.args.taker.rule.machine in
-    let at = removal_at T law _ c.args.self.now.k c.args.self.now.held c.requires.sound i _ _ _ c.loop-removal.c _ c.entry_at-own.ensures c.events-m.ensures c.in_default.ensures in
+    let at = removal_at T law _ c.args.self.now.k c.args.self.now.held c.requires.sound i _ _ _ c.loop-removal.c _ c.entry-own.ensures c.events-m.ensures c.in_default.ensures in
     let end = past _ c.loop-removal.c (0, 0) at in
     λ j h. c.loop-removal.invariant.1 j (omega (arith, end))

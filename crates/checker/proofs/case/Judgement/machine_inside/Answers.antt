@@ -1,46 +1,28 @@
-use Rattle.std.proofs.Common.{◌≡◌, ℕ, ◌<◌, length, sym, refl, ap, ◌∙◌, subst, inl, inr, arith}
-use Rattle.std.proofs.lemmas.Bool.{cases_lt, cases_eq}
+use Rattle.std.proofs.Common.{◌≡◌, ℕ, ◌+◌, ◌<◌, length, sym, refl, ap, ◌∙◌, subst, inl, inr, arith}
+use Rattle.std.proofs.lemmas.Bool.{cases_eq}
 use Rattle.model.specs.Order.{Nothing}
 use Rattle.model.specs.System.{rule_of}
 use Rattle.checker.proofs.Deciding.{not_from}
+use Rattle.checker.proofs.Walking.{Walked, walk_on}
 use Rattle.checker.specs.Held.{record_in}
-use Rattle.checker.specs.Plan.{cell_of, cell_at}
+use Rattle.checker.specs.Plan.{cell_of, cell_at, FirstFrom}
 use Rattle.closed_sets.specs.Judging.{Applies, outcomes_of}
 use Rattle.closed_sets.specs.Records.{Record, record_of, local_in}
 use Rattle.table.proofs.Parts.{rules_long}
-use Rattle.table.specs.Layout.{rules_n}
 use Rattle.table.specs.SystemOf.{system_of}
 use Rattle.checker.specs.Case.{claim_at, table_at}
 use Rattle.checker.proofs.case.Judgement.machine_inside.Goals as goal
 
-pub loop-r-init : goal.loop-r-init
-loop-r-init g c =
-    let bs = table_at c.args.self.now in
-    let at = c.args.self.now.judge.now.planned.chained in
-    let x = cell_of c.args.i c.entry_at.result.local in
-    let small : x < 256 = omega arith in
-    let same : x ≡ cell_of c.args.i (local_in (record_in c.args.self.now.held) c.args.i) = ap (λ (z : ℕ × ℕ). cell_of c.args.i z.0) c.entry_at.ensures in
-    let is = c.first-r.ensures in
-    ((λ l. ap (cell_at bs) is ∙ at.headed x small (subst (λ (z : ℕ). z < rules_n bs) is l) ∙ same), (λ j l u e. absurd (at.heads x small j (omega arith) (subst (λ (z : ℕ). j < z) is l) u (e ∙ sym same))))
-
-pub loop-r-preserved : goal.loop-r-preserved
-loop-r-preserved g c =
+pub loop-next-preserved : goal.loop-next-preserved
+loop-next-preserved g c =
     let bs = table_at c.args.self.now in
     let T = claim_at g.A.QueueAbstraction c.args.self.now in
-    let at = c.args.self.now.judge.now.planned.chained in
-    let r = c.loop-r.r in
-    let inv = c.loop-r.invariant in
-    let lt : r < rules_n bs = omega (arith, c.loop-r-test.true, c.rule_count.ensures, at.count) in
-    let is = c.after-r.ensures in (
-      (λ l. ap (cell_at bs) is ∙ at.linked r (omega arith) lt (subst (λ (z : ℕ). z < rules_n bs) is l) ∙ inv.0 lt),
-      (λ j l u e. elim (cases_lt j r) [
-        | inl b ↦ inv.1 j b u e
-        | inr ge ↦ elim (cases_eq r j) [
-          | inl s ↦ subst (λ (z : ℕ). Nothing (Applies T) (outcomes_of T c.args.self.now.k z)) s c.in-Ok.ensures
-          | inr ne ↦ absurd (at.next r (omega arith) lt j (omega arith) (subst (λ (z : ℕ). j < z) is l) u (e ∙ sym (inv.0 lt)))
-        ]
-      ]),
-    )
+    let x = cell_of c.args.i (local_in (record_in c.args.self.now.held) c.args.i) in
+    let r = c.in-Some.r in
+    let P : ℕ → Type 0 = λ j. Nothing (Applies T) (outcomes_of T c.args.self.now.k j) in
+    let w = subst (Walked P bs x) c.in-Some.is c.loop-next.invariant in
+    let on = subst (FirstFrom bs (cell_at bs r) (r + 1)) (sym c.after-next.ensures) (c.args.self.now.judge.now.planned.chained.next r (omega arith) w.0) in
+    walk_on P bs x r c.after-next.result w c.in-Ok.ensures (subst (λ (z : ℕ). FirstFrom bs z (r + 1) c.after-next.result) w.1 on)
 
 pub returns : goal.returns
 returns g c e r h m =
@@ -52,7 +34,8 @@ returns g c e r h m =
     let own = local_in (record_in c.args.self.now.held) c.args.i in
     let is : own ≡ local_in (record_of T c.args.self.now.k) c.args.i = ap (λ (z : Record). local_in z c.args.i) c.requires.sound.is in
     let lt : r < length (system_of bs).rules = omega (arith, rules_long bs, h) in
+    let P : ℕ → Type 0 = λ j. Nothing (Applies T) (outcomes_of T c.args.self.now.k j) in
     elim (cases_eq x.from own) [
-      | inl s ↦ c.loop-r.invariant.1 r (omega (arith, c.loop-r-test.false, c.rule_count.ensures, c.args.self.now.judge.now.planned.chained.count)) h (ap (λ (z : ℕ). cell_of z x.from) m ∙ ap (cell_of c.args.i) s)
+      | inl s ↦ subst (Walked P bs (cell_of c.args.i own)) c.in_default.is c.loop-next.invariant r h (ap (λ (z : ℕ). cell_of z x.from) m ∙ ap (cell_of c.args.i) s)
       | inr ne ↦ (λ o l a. not_from T law _ c.args.self.now.k c.args.self.now.held c.requires.sound c.args.self.now.judge.now.case.now.ready.proper r lt x refl (λ f. ne (sym f ∙ ap (local_in (record_of T c.args.self.now.k)) m ∙ sym is)) o a)
     ]

@@ -11,9 +11,8 @@ returns g c =
     let bs = table_at c.args.self.now in
     let T = claim_at g.A.QueueAbstraction c.args.self.now in
     let x = c.args.mover in
-    let e : record_in c.replaced.result ≡ moved_in x c.args.code (record_of T c.args.self.now.k) = c.replaced.ensures.is ∙ ap (λ (z : Record). set z x.machine (x.to, c.args.code)) c.requires.sound.is in
+    let e : record_in c.with.result ≡ moved_in x c.args.code (record_of T c.args.self.now.k) = c.with.ensures.is ∙ ap (λ (z : Record). set z x.machine (x.to, c.args.code)) c.requires.sound.is in
     record {
       is = e;
-      machines = c.replaced.ensures.machines ∙ c.requires.sound.machines;
-      sized = ap length e ∙ length-set (record_of T c.args.self.now.k) x.machine (x.to, c.args.code) ∙ c.requires.sound.sound.entries ∙ machines_long bs;
+      machines = c.with.ensures.machines ∙ c.requires.sound.machines;
     }

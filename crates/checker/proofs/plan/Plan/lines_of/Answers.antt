@@ -3,7 +3,7 @@ use Rattle.table.proofs.Parts.{lines_long}
 use Rattle.table.specs.Layout.{pattern_offset}
 use Rattle.table.specs.Lines.{pattern_line_at}
 use Rattle.checker.specs.Plan.{no_line}
-use Rattle.checker.proofs.plan.lines_of.Goals as goal
+use Rattle.checker.proofs.plan.Plan.lines_of.Goals as goal
 
 pub pattern_line-requires : goal.pattern_line-requires
 pattern_line-requires c = omega (arith, lines_long c.args.table.now.bytes.now, c.pattern_line_count-l-end.ensures)
