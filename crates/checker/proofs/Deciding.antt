@@ -1,7 +1,7 @@
 -- What the tests of a record that is held decide. Assumes nothing.
-use Rattle.std.proofs.Common.{◌≡◌, ℕ, ◌<◌, Bool, List, [], ◌∷◌, ◌++◌, length, get_or, Some, Ok, Err, Decides, Option, Result, sym, refl, ap, ◌∙◌, subst, arith}
+use Rattle.std.proofs.Common.{◌≡◌, ℕ, ◌<◌, Bool, false, List, [], ◌∷◌, ◌++◌, length, get_or, Some, Ok, Err, Decides, Option, Result, sym, refl, ap, ◌∙◌, subst, arith}
 use Rattle.model.specs.Bad.{NoTake}
-use Rattle.model.specs.Order.{each, one}
+use Rattle.model.specs.Order.{Order, Nothing, each, one}
 use Rattle.model.specs.Queue.{Over}
 use Rattle.model.specs.System.{System, machines, WellFormed, RuleFits, pattern_of, rule_of}
 use Rattle.model.specs.declared.fault.Fault.{Fault}
@@ -17,11 +17,13 @@ use Rattle.checker.specs.declared.held.Held.{Held}
 use Rattle.closed_sets.proofs.Lets.{surprise_lets, pattern_lets}
 use Rattle.closed_sets.proofs.Outside.{outside_lets, outside_not}
 use Rattle.closed_sets.specs.Codes.{MaySurprise, MayMeet, Leads}
-use Rattle.closed_sets.specs.Judging.{Leaves, Applies, Judged, outcomes, outcomes_of, surprise, met, outside}
+use Rattle.closed_sets.specs.Judging.{Finding, Leaves, Applies, Judged, outcomes, outcomes_of, surprise, met, outside}
 use Rattle.closed_sets.specs.Records.{Claim, Record, record_of, local_in, code_in, Listed, Lets}
 use Rattle.closed_sets.specs.Theorems.{Means}
+use Rattle.std.proofs.lemmas.Bool.{true≢false}
 use Rattle.std.proofs.lemmas.Bool.Decides.{Decides-like}
 use Rattle.std.specs.List.{slice_get}
+use Rattle.std.specs.Result.{is_err}
 
 module _ (T : Claim) (law : Means T) (n k : ℕ) (h : Held) (j : Judging T n k h) where
   pub entry_is : (i l c : ℕ) → (l, c) ≡ get_or (record_in h) i (0, 0) → (l, c) ≡ get_or (record_of T k) i (0, 0)
@@ -138,3 +140,8 @@ appends_as code m n b c e d f g h =
 -- the rule of a number names what is there
 pub rule_fits : (S : System) → WellFormed S → (r : ℕ) → r < length S.rules → (x : Rule) → x ≡ rule_of S r → RuleFits S x
 rule_fits S p r h x e = subst (RuleFits S) (sym e) (p.rules r h)
+
+-- where no error is answered, nothing of the order applies
+pub judged_ok : (T : Claim) (o : Order Finding) (r : Result (Unit {0}) Fault) → is_err r ≡ false → Judged T o r → Nothing (Applies T) o
+judged_ok T o (Ok v) e h = h
+judged_ok T o (Err f) e h = absurd (true≢false e)

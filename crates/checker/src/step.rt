@@ -180,10 +180,10 @@ impl<A: QueueAbstraction> Judgement<'_, A> {
         let plan = &self.judge.plan;
         let mut next = plan.first(i, self.held.entry(i).local);
         while let Some(r) = next {
-            match self.check_rule(hints, r) {
-                Ok(()) => next = plan.after(r),
-                Err(_) => return false,
+            if self.check_rule(hints, r).is_err() {
+                return false;
             }
+            next = plan.after(r);
         }
         true
     }

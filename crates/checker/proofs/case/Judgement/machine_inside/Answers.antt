@@ -2,7 +2,7 @@ use Rattle.std.proofs.Common.{◌≡◌, ℕ, ◌+◌, ◌<◌, length, sym, ref
 use Rattle.std.proofs.lemmas.Bool.{cases_eq}
 use Rattle.model.specs.Order.{Nothing}
 use Rattle.model.specs.System.{rule_of}
-use Rattle.checker.proofs.Deciding.{not_from}
+use Rattle.checker.proofs.Deciding.{not_from, judged_ok}
 use Rattle.checker.proofs.Walking.{Walked, walk_on}
 use Rattle.checker.specs.Held.{record_in}
 use Rattle.checker.specs.Plan.{cell_of, cell_at, FirstFrom}
@@ -22,7 +22,7 @@ loop-next-preserved g c =
     let P : ℕ → Type 0 = λ j. Nothing (Applies T) (outcomes_of T c.args.self.now.k j) in
     let w = subst (Walked P bs x) c.in-Some.is c.loop-next.invariant in
     let on = subst (FirstFrom bs (cell_at bs r) (r + 1)) (sym c.after-next.ensures) (c.args.self.now.judge.now.planned.chained.next r (omega arith) w.0) in
-    walk_on P bs x r c.after-next.result w c.in-Ok.ensures (subst (λ (z : ℕ). FirstFrom bs z (r + 1) c.after-next.result) w.1 on)
+    walk_on P bs x r c.after-next.result w (judged_ok T (outcomes_of T c.args.self.now.k r) c.check_rule.result (sym c.is_err.ensures.value ∙ c.if-is_err.false) c.check_rule.ensures) (subst (λ (z : ℕ). FirstFrom bs z (r + 1) c.after-next.result) w.1 on)
 
 pub returns : goal.returns
 returns g c e r h m =
