@@ -2,9 +2,10 @@
 use Rattle.std.proofs.Common.{◌≡◌, ℕ, zero, suc, ◌+◌, ◌*◌, ◌/◌, ◌%◌, ◌^◌, ◌<◌, ◌≤◌, List, [], ◌∷◌, ◌++◌, ap, subst, inl, inr, lt_of_lt_of_le, add-zero, arith, pow_mono}
 use native.Mathlib.Nat.{div-eq_of_lt}
 use Rattle.std.specs.List.{range_with_len}
-use Rattle.std.proofs.lemmas.Nat.{shr_below, shr_split, pow_pos, mod_below}
+use Rattle.std.proofs.lemmas.Nat.{shr_below}
 use Rattle.std.proofs.lemmas.Bool.{cases_lt}
 use Rattle.model.specs.Queue.{Over, Waits, Bit, Covers}
+use Rattle.model.proofs.Masks.{quotient_zero}
 
 -- an event that stands in a queue over m events is below m
 pub waits_below : (m e : ℕ) (Q : List ℕ) → Over m Q → Waits e Q → e < m
@@ -20,11 +21,6 @@ bit_below m mask e h b = elim (cases_lt e m) [ inl l ↦ l | inr l ↦ absurd (n
     none_there l =
         let z : mask / 2 ^ e ≡ 0 = div-eq_of_lt (lt_of_lt_of_le h (pow_mono l)) in
         omega (arith, b, z)
-
-pub quotient_zero : (n m : ℕ) → n / 2 ^ m ≡ 0 → n < 2 ^ m
-quotient_zero n m z =
-    let s : 0 * 2 ^ m + n % 2 ^ m ≡ n = subst (λ (x : ℕ). x * 2 ^ m + n % 2 ^ m ≡ n) z (shr_split n m) in
-    omega (arith, s, mod_below n (2 ^ m) (pow_pos m))
 
 -- a number whose bits are below m is below 2 ^ m
 pub below_bits : (n m mask : ℕ) → mask < 2 ^ (m + n) → ((e : ℕ) → Bit mask e → e < m) → mask < 2 ^ m

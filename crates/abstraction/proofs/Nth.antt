@@ -1,7 +1,8 @@
 -- The element at a place of a list. Assumes nothing.
-use Rattle.std.proofs.Common.{◌≡◌, ℕ, zero, suc, ◌<◌, ◌≤◌, Bool, true, false, cond, ◌⊎◌, List, [], ◌∷◌, ◌++◌, map, length, Some, None, Option, sym, refl, ap, ◌∙◌, inl, inr, arith}
+use Rattle.std.proofs.Common.{◌≡◌, ℕ, zero, suc, ◌+◌, ◌<◌, ◌≤◌, Bool, true, false, cond, ◌⊎◌, List, [], ◌∷◌, ◌++◌, map, drop, length, Some, None, Option, sym, refl, ap, ◌∙◌, inl, inr, arith}
 use Rattle.std.specs.List.{slice_get, range_with_len}
 use Rattle.std.proofs.lemmas.Option.{slice_get-get_or, slice_get_past}
+use Rattle.std.proofs.lemmas.List.{length-drop}
 use Rattle.std.proofs.lemmas.List.FromFn.{get_or-map-range_with_len, length-map-range_with_len}
 use Rattle.std.proofs.lemmas.Bool.{cases_lt}
 
@@ -69,3 +70,12 @@ nth_behind false x ys k = refl
 
 pub past : {X : Type 0} (xs : List X) (k : ℕ) (d : X) → slice_get xs k ≡ None → length xs ≤ k
 past xs k d h = elim (cases_lt k (length xs)) [ inl l ↦ absurd (none_some _ (sym h ∙ slice_get-get_or xs k d l)) | inr l ↦ l ]
+
+-- what stands behind the first k: its first element stands at place k, and nothing, where they were all
+pub rest_first : {X : Type 0} (xs : List X) (k : ℕ) (x : X) (ys : List X) → drop k xs ≡ x ∷ ys → (slice_get xs k ≡ Some x) × (ys ≡ drop (k + 1) xs)
+rest_first xs zero x ys e = rw e (refl, refl)
+rest_first [] (suc k) x ys e = absurd (omega (arith, ap length e))
+rest_first (z ∷ xs) (suc k) x ys e = let (h, t) = rest_first xs k x ys e in let p : suc (k + 1) ≡ suc k + 1 = omega arith in (h, t ∙ ap (λ (n : ℕ). drop n (z ∷ xs)) p)
+
+pub rest_none : {X : Type 0} (xs : List X) (k : ℕ) → drop k xs ≡ [] → length xs ≤ k
+rest_none xs k e = omega (arith, length-drop k xs, ap length e)

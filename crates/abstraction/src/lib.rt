@@ -5,10 +5,11 @@ ghost use Rattle.std.specs.Prelude.{◌≡◌, ℕ, List, [], Decides};
 ghost use Rattle.std.specs.List.{slice_get};
 ghost use Rattle.abstraction.specs.Meaning.{Meaning, Good, Allowed, Appended, Removal};
 
+use crate::removals::each_removal;
 use model::queue::Front;
 
 pub mod limits;
-pub mod mask;
+pub mod removals;
 
 // What callers may rely on, whatever the abstraction: m is the number of events, c a code.
 pub trait QueueAbstraction {
@@ -50,12 +51,5 @@ pub trait QueueAbstraction {
 pub fn has_removal<A: QueueAbstraction>(abstraction: &A, m: u8, c: u64, e: u8, d: u64) -> bool
     ensures { Decides result (Removal (A.bits abstraction.now) (A.code abstraction.now) m c e d) }
 {
-    let mut k = 0;
-    while let Some((taken, left)) = abstraction.removal(m, c, k) {
-        if taken == e && left == d {
-            return true;
-        }
-        k += 1;
-    }
-    false
+    each_removal(abstraction, m, c).any(|removal| removal == (e, d))
 }

@@ -1,9 +1,9 @@
 -- What the blank abstraction allows. Assumes nothing.
-use Rattle.std.proofs.Common.{◌≡◌, ℕ, ◌+◌, ◌-◌, ◌^◌, ◌<◌, Bool, List, [], ◌∷◌, Decides, sym, refl, subst, inr, arith}
+use Rattle.std.proofs.Common.{◌≡◌, ℕ, ◌+◌, ◌-◌, ◌^◌, ◌<◌, Bool, List, ◌∷◌, Decides, sym, refl, subst, inr, arith}
 use Rattle.std.specs.List.{range_with_len}
 use Rattle.model.specs.declared.queue.Front.{Front}
 use Rattle.model.specs.declared.queue.Front.TheVariants.{Any, Event}
-use Rattle.model.specs.Queue.{Over, Covers, Begins}
+use Rattle.model.specs.Queue.{Over, Covers}
 use Rattle.abstraction.specs.Meaning.{Valid, Allowed}
 use Rattle.blank_abstraction.specs.Blank.{blank_code}
 use Rattle.abstraction.proofs.Masks.{waits_below, bit_below, below_bits, counting_waits, counting_over}
@@ -31,10 +31,3 @@ module _ (m c mask : ℕ) (v : Valid m 0) (z : 0 ≡ c) (low : mask < 256) where
     λ t. record { valid = v; queue = e ∷ range_with_len 0 m; over = (l, counting_over m 0 m (omega arith)); coded = z; begins = refl; covers = λ f b. inr (all (d.0 t) f b) },
     λ a. d.1 (covered a.queue a.over a.covers),
   )
-
-  pub event_below : (e : ℕ) → Free m c (Event e) mask → e < m
-  event_below e a = at a.queue a.over a.begins
-    where
-      at : (Q : List ℕ) → Over m Q → Begins (Event e) Q → e < m
-      at [] o b = absurd b
-      at (f ∷ Q) o b = omega (arith, o.0, b)

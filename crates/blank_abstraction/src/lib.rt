@@ -6,10 +6,10 @@ ghost use Rattle.blank_abstraction.specs.Removals.{blank_meaning};
 
 use abstraction::QueueAbstraction;
 use abstraction::limits::valid;
-use abstraction::mask::fits;
+use model::mask::fits;
 use model::queue::Front;
 
-#[derive(Clone, Copy)]
+#[derive(Clone, Copy, PartialEq, Eq, Debug, Default)]
 pub struct BlankAbstraction;
 
 impl QueueAbstraction for BlankAbstraction {
@@ -34,11 +34,7 @@ impl QueueAbstraction for BlankAbstraction {
     }
 
     fn append(&self, m: u8, c: u64, e: u8) -> Option<u64> {
-        if self.good(m, c) && e < m {
-            Some(0)
-        } else {
-            None
-        }
+        (self.good(m, c) && e < m).then_some(0)
     }
 
     // Every queue has the code, so only the events asked for have to exist.
@@ -46,18 +42,18 @@ impl QueueAbstraction for BlankAbstraction {
         if !self.good(m, c) {
             return false;
         }
+        let exist = fits(u64::from(mask), u16::from(m));
         match front {
-            Front::Any => fits(u64::from(mask), m),
+            Front::Any => exist,
             Front::Empty => mask == 0,
-            Front::Event(e) => e < m && fits(u64::from(mask), m),
+            Front::Event(e) => e < m && exist,
         }
     }
 
     fn removal(&self, m: u8, c: u64, k: u64) -> Option<(u8, u64)> {
-        if self.good(m, c) && k < u64::from(m) {
-            Some((k as u8, 0))
-        } else {
-            None
-        }
+        let Ok(e) = u8::try_from(k) else {
+            return None;
+        };
+        (self.good(m, c) && e < m).then_some((e, 0))
     }
 }

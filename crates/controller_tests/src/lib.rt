@@ -20,7 +20,7 @@ mod tests {
     fn rehearsed(capacity: u8, calls: &[Call], answers: &mut [Answer]) -> (usize, u8, u32) {
         match rehearse(TABLE, SET, &ListAbstraction, capacity, calls, answers) {
             Ok(count) => (count, 0, 0),
-            Err(fault) => (0, fault.number.number(), fault.a),
+            Err(fault) => (0, u8::from(fault.number), fault.a),
         }
     }
 
@@ -30,7 +30,7 @@ mod tests {
             Answer::Accepted => 0,
             Answer::Reset => 100,
             Answer::Seen(sight) => 200 + u16::from(sight.waiting),
-            Answer::Refused(fault) => u16::from(fault.number.number()),
+            Answer::Refused(fault) => u16::from(u8::from(fault.number)),
         }
     }
 

@@ -1,16 +1,18 @@
 -- The front of a code that has been read. Assumes nothing.
-use Rattle.std.proofs.Common.{◌≡◌, ℕ, ◌+◌, ◌*◌, ◌^◌, ◌<◌, ◌≤◌, List, [], ◌∷◌, ◌++◌, length, sym, refl, ap, ◌∙◌, subst, inl, inr, arith}
+use Rattle.std.proofs.Common.{◌≡◌, ℕ, ◌+◌, ◌*◌, ◌^◌, ◌<◌, ◌≤◌, ◌/◌, ◌%◌, Bool, cond, eqb, List, [], ◌∷◌, ◌++◌, length, sym, refl, ap, ◌∙◌, subst, inl, inr, arith}
 use lib.Bits.{bit_or}
 use Rattle.std.specs.List.{AllByRecursion}
 use Rattle.std.proofs.lemmas.Nat.{or_lt, pow_below}
 use Rattle.std.proofs.lemmas.List.{length_push}
+use Rattle.std.proofs.lemmas.Bool.{eqb-true, ne_eqb}
+use Rattle.std.specs.Int.RustNames.{count_ones}
 use Rattle.std.proofs.ByRecursion.{All-push}
 use Rattle.model.specs.Queue.{Waits, Bit}
 use Rattle.abstraction.specs.Meaning.{Valid, Good}
-use Rattle.abstraction.proofs.Bitwise.{bit_or_lem, or_left, or_right, pow_bit, bit_pow, bits_ext}
+use Rattle.abstraction.proofs.Bitwise.{each_below, at_below, bit_or_lem, or_left, or_right, pow_bit, bit_pow, bits_ext}
 use Rattle.abstraction.specs.Distinct.{Apart, Below}
 use Rattle.abstraction.proofs.Masks.{bit_below}
-use Rattle.abstraction.proofs.Distinct.{waits_append, append_waits, apart_push, few_below}
+use Rattle.abstraction.proofs.Distinct.{waits_append, append_waits, apart_push}
 use Rattle.list_abstraction.specs.List.{pack, list_code}
 use Rattle.list_abstraction.specs.Read.{Marks, Seen}
 use Rattle.list_abstraction.specs.Meaning.{good_coded}
@@ -19,14 +21,14 @@ abbrev pub onto : List ℕ → ℕ → ℕ
 onto [] r = r
 onto (e ∷ P) r = 16 * onto P r + e + 1
 
-pub record Far (m c rest mask count : ℕ) : Type 0 where
+pub record Far (m c rest mask : ℕ) : Type 0 where
   pub front : List ℕ
   pub below : Below m front
   pub apart : Apart front
   pub read : onto front rest ≡ c
   pub low : mask < 2 ^ 8
   pub marks : Marks mask front
-  pub long : length front ≡ count
+  pub long : length front ≡ count_ones mask
 
 onto_zero : (P : List ℕ) → onto P 0 ≡ pack P
 onto_zero [] = refl
@@ -69,12 +71,27 @@ bit_has mask e low l b =
     (λ f h. elim (bit_or_lem mask (2 ^ e) f h) [ inl i ↦ i | inr i ↦ subst (Bit mask) (sym (bit_pow e f i)) b ])
     (λ f h. or_left mask (2 ^ e) f h)
 
-module _ (m c : ℕ) (v : Valid m 32) where
-  pub far_start : Far m c c 0 0
-  far_start = record { front = []; below = tt; apart = tt; read = refl; low = omega arith; marks = λ e. (λ b. absurd (omega (arith, bit_below 0 0 e (omega arith) b)), λ h. absurd h); long = refl }
+-- no bits, and a bit more
+none_counted : 0 ≡ count_ones 0
+unfolding count_ones
+none_counted = refl
 
-  pub far_more : (rest mask count e : ℕ) → Far m c (16 * rest + e + 1) mask count → e < m → (Bit mask e → ⊥) → Far m c rest (bit_or mask (2 ^ e)) (count + 1)
-  far_more rest mask count e f l n = record {
+counts : ℕ → ℕ → Bool
+counts mask e = eqb (count_ones (bit_or mask (2 ^ e))) (count_ones mask + cond (eqb (mask / 2 ^ e % 2) 1) 0 1)
+
+one_more : (mask e : ℕ) → mask < 2 ^ 8 → e < 8 → (Bit mask e → ⊥) → count_ones (bit_or mask (2 ^ e)) ≡ count_ones mask + 1
+unfolding counts count_ones
+one_more mask e low l n =
+    eqb-true (count_ones (bit_or mask (2 ^ e))) (count_ones mask + cond (eqb (mask / 2 ^ e % 2) 1) 0 1)
+    (at_below 8 (counts mask) (at_below 256 (λ (x : ℕ). each_below 8 (counts x)) refl mask low) e l)
+    ∙ ap (λ (b : Bool). count_ones mask + cond b 0 1) (ne_eqb (mask / 2 ^ e % 2) 1 n)
+
+module _ (m c : ℕ) (v : Valid m 32) where
+  pub far_start : Far m c c 0
+  far_start = record { front = []; below = tt; apart = tt; read = refl; low = omega arith; marks = λ e. (λ b. absurd (omega (arith, bit_below 0 0 e (omega arith) b)), λ h. absurd h); long = none_counted }
+
+  pub far_more : (rest mask e : ℕ) → Far m c (16 * rest + e + 1) mask → e < m → (Bit mask e → ⊥) → Far m c rest (bit_or mask (2 ^ e))
+  far_more rest mask e f l n = record {
     front = f.front ++ e ∷ [];
     below = All-push (λ (y : ℕ). y < m) f.front e f.below l;
     apart = apart_push f.front e f.apart (λ h. n ((f.marks e).1 h));
@@ -84,11 +101,11 @@ module _ (m c : ℕ) (v : Valid m 32) where
       λ b. append_waits g e f.front (elim (bit_or_lem mask (2 ^ e) g b) [ inl i ↦ inl ((f.marks g).0 i) | inr i ↦ inr (bit_pow e g i) ]),
       λ h. elim (waits_append g e f.front h) [ inl i ↦ or_left mask (2 ^ e) g ((f.marks g).1 i) | inr p ↦ or_right mask (2 ^ e) g (subst (Bit (2 ^ e)) (sym p) (pow_bit e)) ],
     );
-    long = length_push f.front e ∙ ap (λ (x : ℕ). x + 1) f.long;
+    long = length_push f.front e ∙ ap (λ (x : ℕ). x + 1) f.long ∙ sym (one_more mask e f.low (omega (arith, v.few)) n);
   }
 
-  pub far_done : (mask count : ℕ) → Far m c 0 mask count → Seen m c (record { mask = mask; count = count })
-  far_done mask count f = record {
+  pub far_done : (mask : ℕ) → Far m c 0 mask → Seen m c mask
+  far_done mask f = record {
     list = f.front;
     low = f.low;
     coded = record { valid = v; below = f.below; apart = f.apart; packed = sym (onto_zero f.front) ∙ f.read };
@@ -96,12 +113,9 @@ module _ (m c : ℕ) (v : Valid m 32) where
     count = f.long;
   }
 
-  pub far_few : (rest mask count : ℕ) → Far m c rest mask count → count ≤ 8
-  far_few rest mask count f = omega (arith, few_below m f.front f.below f.apart, f.long, v.few)
-
   -- what stands next in a good code
-  pub far_next : (rest mask count : ℕ) → Far m c rest mask count → Good 32 list_code m c → (rest ≡ 0 → ⊥) → (e : ℕ) × (r : ℕ) × (rest ≡ 16 * r + e + 1) × (e < m) × (Bit mask e → ⊥)
-  far_next rest mask count f g z =
+  pub far_next : (rest mask : ℕ) → Far m c rest mask → Good 32 list_code m c → (rest ≡ 0 → ⊥) → (e : ℕ) × (r : ℕ) × (rest ≡ 16 * r + e + 1) × (e < m) × (Bit mask e → ⊥)
+  far_next rest mask f g z =
       let (L, k) = good_coded m c g in
       let (R, b, q, s) = onto_split m rest f.front L v.few f.below k.below (k.packed ∙ sym f.read) in
       go R b s (subst Apart q k.apart)

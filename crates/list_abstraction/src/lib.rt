@@ -9,30 +9,25 @@ ghost use Rattle.list_abstraction.specs.Meaning.{list_meaning};
 
 use abstraction::QueueAbstraction;
 use abstraction::limits::valid;
-use abstraction::mask::bit;
+use model::mask::bit;
 use model::queue::Front;
 
-#[derive(Clone, Copy)]
+#[derive(Clone, Copy, PartialEq, Eq, Debug, Default)]
 pub struct ListAbstraction;
 
 const WIDTH: u8 = 32;
 
-// The events of a good code: their mask and their number.
-#[derive(Clone, Copy)]
-struct Listed {
-    mask: u8,
-    count: u8,
-}
-
-fn read(m: u8, c: u64) -> Option<Listed>
+// The mask of the events of a good code.
+fn read(m: u8, c: u64) -> Option<u8>
     ensures { Read m c result }
 {
     if !valid(m, WIDTH) {
         return None;
     }
     let mut mask = 0;
-    let mut count = 0;
     let mut rest = c;
+    // The loop divides what is left: the code ends where nothing is, and an iterator over its digits would have to
+    // tell that from a gap.
     while rest != 0 {
         let digit = (rest % 16) as u8;
         if digit == 0 || digit > m {
@@ -43,14 +38,13 @@ fn read(m: u8, c: u64) -> Option<Listed>
             return None;
         }
         mask |= one;
-        count += 1;
         rest /= 16;
     }
-    Some(Listed { mask, count })
+    Some(mask)
 }
 
 // The value of position i.
-fn place(i: u8) -> u64
+fn place(i: u32) -> u64
     requires { i < 8 }
     ensures { result ≡ 2 ^ (4 * i) }
 {
@@ -83,21 +77,22 @@ impl QueueAbstraction for ListAbstraction {
         if e >= m {
             return None;
         }
-        if listed.mask | bit(e) == listed.mask {
+        if listed | bit(e) == listed {
             return Some(c);
         }
-        Some(c + (u64::from(e) + 1) * place(listed.count))
+        Some(c + (u64::from(e) + 1) * place(listed.count_ones()))
     }
 
     // The first event stands in front, and the events listed are those that wait.
     fn allows(&self, m: u8, c: u64, front: Front, mask: u8) -> bool {
-        match read(m, c) {
-            None => false,
-            Some(listed) => match front {
-                Front::Any => mask | listed.mask == listed.mask,
-                Front::Empty => c == 0 && mask == 0,
-                Front::Event(e) => c % 16 == u64::from(e) + 1 && mask | listed.mask == listed.mask,
-            },
+        let Some(listed) = read(m, c) else {
+            return false;
+        };
+        let wait = mask | listed == listed;
+        match front {
+            Front::Any => wait,
+            Front::Empty => c == 0 && mask == 0,
+            Front::Event(e) => c % 16 == u64::from(e) + 1 && wait,
         }
     }
 
@@ -112,10 +107,10 @@ impl QueueAbstraction for ListAbstraction {
         if k == 0 {
             return Some((e, rest));
         }
-        if k > u64::from(listed.count) {
+        if k > u64::from(listed.count_ones()) {
             return None;
         }
-        let here = place((k - 1) as u8);
+        let here = place((k - 1) as u32);
         let high = rest / here;
         let low = rest % here;
         let left = (16 * high + u64::from(e) + 1) * here + low;

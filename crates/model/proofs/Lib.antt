@@ -1,3 +1,4 @@
 pub mod Findings
 pub mod Flat
+pub mod Masks
 pub mod States

@@ -1,5 +1,5 @@
 -- Queues of events, front first, and what is asked of one. Assumes nothing.
-use Rattle.std.specs.Prelude.{◌≡◌, ℕ, ◌/◌, ◌%◌, ◌^◌, ◌<◌, ◌⊎◌, List, [], ◌∷◌}
+use Rattle.std.specs.Prelude.{◌≡◌, ℕ, ◌/◌, ◌%◌, ◌^◌, ◌<◌, ◌==◌, Bool, ◌⊎◌, List, [], ◌∷◌}
 use Rattle.model.specs.declared.queue.Front.{Front}
 use Rattle.model.specs.declared.queue.Front.TheVariants.{Any, Empty, Event}
 
@@ -16,6 +16,10 @@ Waits e (f ∷ Q) = (e ≡ f) ⊎ Waits e Q
 -- bit e of the mask is set
 abbrev pub Bit : ℕ → ℕ → Type 0
 Bit mask e = mask / 2 ^ e % 2 ≡ 1
+
+-- the same, as a test
+abbrev pub present : ℕ → ℕ → Bool
+present mask e = mask / 2 ^ e % 2 == 1
 
 -- every event of the mask waits in the queue
 abbrev pub Covers : ℕ → List ℕ → Type 0

@@ -34,12 +34,12 @@ pub struct Fault {
     pub c: u64,
 }
 
-impl Refusal {
-    // The number that the refusal is known by.
-    pub fn number(self) -> u8
-        ensures { result ≡ number_of self }
-    {
-        self as u8
+// The number that a refusal is known by.
+impl From<Refusal> for u8 {
+    ghost from_gives = { λ r n. n ≡ number_of r };
+
+    fn from(refusal: Refusal) -> u8 {
+        refusal as u8
     }
 }
 
@@ -48,7 +48,7 @@ impl fmt::Display for Fault {
     ghost output = { λ f. Some (line f) };
 
     fn fmt<W: fmt::Write>(&self, f: &mut fmt::Formatter<W>) -> fmt::Result {
-        let number = self.number.number();
+        let number = u8::from(self.number);
         let a = self.a;
         let b = self.b;
         let c = self.c;

@@ -3,6 +3,7 @@
 
 pub mod fault;
 pub mod laws;
+pub mod mask;
 pub mod pattern;
 pub mod queue;
 pub mod rule;

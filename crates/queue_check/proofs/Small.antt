@@ -9,6 +9,7 @@ use Rattle.model.specs.declared.rule.Action.{Action}
 use Rattle.model.specs.declared.rule.Action.TheVariants.{Local, Take, Send}
 use Rattle.model.specs.declared.rule.Rule.{Rule}
 use Rattle.model.specs.System.{rule_of}
+use Rattle.model.specs.Queue.{present}
 use Rattle.model.specs.Order.{Order, one, ◌then◌, each, First, FirstFault}
 use Rattle.table.specs.Bytes.{byte_at, word_at}
 use Rattle.table.specs.Header.{fault_at}
@@ -16,7 +17,7 @@ use Rattle.table.specs.Layout.{machines_n, pattern_lines_n, machine_offset, rule
 use Rattle.table.specs.SystemOf.{system_of, pattern_count, number_of}
 use Rattle.table.proofs.Parts.{machines_long, rules_long, patterns_long}
 use Rattle.blank_abstraction.specs.Blank.{blank_good, each_event}
-use Rattle.set_abstraction.specs.Set.{present, absent, set_from, set_good}
+use Rattle.set_abstraction.specs.Set.{absent, set_from, set_good}
 use Rattle.list_abstraction.specs.List.{unpack, pack, insertions, removals_of, list_good}
 use Rattle.keep_first.specs.KeepFirst.{begun, keep_bits, kept, keep_taken}
 use Rattle.closed_sets.specs.Records.{Record, record_of}

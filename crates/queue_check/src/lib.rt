@@ -59,7 +59,7 @@ fn pack(fault: Fault) -> u64
     requires { Fits fault }
     ensures { result ≡ packed fault }
 {
-    u64::from(fault.number.number())
+    u64::from(u8::from(fault.number))
         + (u64::from(fault.a) << 8)
         + (u64::from(fault.b) << 32)
         + (fault.c << 48)

@@ -1,1 +1,2 @@
 pub mod Allows
+pub mod Picked

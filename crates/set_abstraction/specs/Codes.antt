@@ -4,12 +4,12 @@ use Rattle.std.proofs.Common.{sym, subst, inl, inr, lt_of_lt_of_le, lt_of_le_of_
 use Rattle.std.specs.Int.Bits.{bit_or}
 use Rattle.std.proofs.lemmas.Nat.{or_lt, pow_pos, pow_below, and_le_l}
 use Rattle.std.proofs.lemmas.Bool.{cases_Bool, eqb-true, eqb-false, cases_eq}
-use Rattle.model.specs.Queue.{Over, Waits, Bit}
+use Rattle.model.specs.Queue.{Over, Waits, Bit, present}
 use Rattle.abstraction.specs.Meaning.{Valid, Good}
 use Rattle.abstraction.proofs.Masks.{bit_below, over_append}
 use Rattle.abstraction.proofs.Bitwise.{bit_or_lem, or_left, or_right, pow_bit, bit_pow, bits_ext, bit_out}
 use Rattle.abstraction.proofs.Distinct.{waits_append, append_waits}
-use Rattle.set_abstraction.specs.Set.{set_code, present, absent}
+use Rattle.set_abstraction.specs.Set.{set_code, absent}
 
 pub no_bit : (e : ℕ) → Bit 0 e → ⊥
 no_bit e b = omega (arith, bit_below 0 0 e (omega arith) b)

@@ -4,11 +4,11 @@ use Rattle.std.proofs.Common.{sym, ap, ◌∙◌, subst, inl, inr, lt_of_lt_of_l
 use Rattle.std.specs.List.{slice_get}
 use Rattle.std.proofs.lemmas.Bool.{eqb-true, eq-eqb, cases_eq}
 use Rattle.std.proofs.lemmas.Bool.Decides.{nat_tests}
-use Rattle.model.specs.Queue.{Bit}
+use Rattle.model.specs.Queue.{Bit, present}
 use Rattle.abstraction.specs.Meaning.{Removal, Meaning}
 use Rattle.abstraction.proofs.Nth.{nth_cond, none_some, some_same}
 use Rattle.abstraction.proofs.Bitwise.{or_left, pow_bit}
-use Rattle.set_abstraction.specs.Set.{set_code, present, absent, set_from, set_good, set_removals}
+use Rattle.set_abstraction.specs.Set.{set_code, absent, set_from, set_good, set_removals}
 use Rattle.set_abstraction.specs.Codes.{code_below, queue_of, queue_over, code_queue, code_append, absent_below, with_absent, with_same, absent_apart, before_put}
 
 -- a list that two elements may stand before

@@ -1,13 +1,10 @@
 -- The set abstraction: the mask of the events present. Assumes nothing.
-use Rattle.std.specs.Prelude.{ℕ, zero, suc, ◌+◌, ◌-◌, ◌/◌, ◌%◌, ◌^◌, Bool, cond, ◌&&◌, List, [], ◌∷◌, ◌++◌, ◌==◌, bit_and, bit_or, nat_le, nat_lt}
+use Rattle.std.specs.Prelude.{ℕ, zero, suc, ◌+◌, ◌-◌, ◌^◌, Bool, cond, ◌&&◌, List, [], ◌∷◌, ◌++◌, bit_and, bit_or, nat_le, nat_lt}
+use Rattle.model.specs.Queue.{present}
 
 abbrev pub set_code : ℕ → List ℕ → ℕ
 set_code m [] = 0
 set_code m (e ∷ Q) = bit_or (2 ^ e) (set_code m Q)
-
--- bit e is set
-abbrev pub present : ℕ → ℕ → Bool
-present c e = c / 2 ^ e % 2 == 1
 
 -- the mask without the event
 abbrev pub absent : ℕ → ℕ → ℕ

@@ -2,21 +2,24 @@
 #![tactic(auto)]
 
 ghost use Rattle.std.specs.Prelude.{◌≡◌};
-ghost use Rattle.set_abstraction.specs.Set.{set_code, present, set_removals};
+ghost use Rattle.std.specs.List.{slice_get, filter, range_with_len};
+ghost use Rattle.model.specs.Queue.{present};
+ghost use Rattle.set_abstraction.specs.Set.{set_code, set_removals};
 ghost use Rattle.set_abstraction.specs.Removals.{set_meaning};
 
 use abstraction::QueueAbstraction;
 use abstraction::limits::valid;
-use abstraction::mask::{bit, fits};
+use model::mask::{bit, fits, has};
 use model::queue::Front;
 
-#[derive(Clone, Copy)]
+#[derive(Clone, Copy, PartialEq, Eq, Debug, Default)]
 pub struct SetAbstraction;
 
-fn has(c: u64, e: u8) -> bool
-    ensures { result ≡ present c e }
+// The n-th event of the set, upwards.
+fn nth_event(m: u8, c: u64, n: u64) -> Option<u8>
+    ensures { result ≡ slice_get (filter (present c) (range_with_len 0 m)) n }
 {
-    e < 64 && (c >> e) % 2 == 1
+    (0..m).filter(|e| has(c, *e)).nth(n as usize)
 }
 
 impl QueueAbstraction for SetAbstraction {
@@ -37,15 +40,11 @@ impl QueueAbstraction for SetAbstraction {
     }
 
     fn good(&self, m: u8, c: u64) -> bool {
-        valid(m, self.width()) && fits(c, m)
+        valid(m, self.width()) && fits(c, u16::from(m))
     }
 
     fn append(&self, m: u8, c: u64, e: u8) -> Option<u64> {
-        if self.good(m, c) && e < m {
-            Some(c | u64::from(bit(e)))
-        } else {
-            None
-        }
+        (self.good(m, c) && e < m).then_some(c | u64::from(bit(e)))
     }
 
     // Any event of the set may stand in front, and all of them wait.
@@ -66,18 +65,12 @@ impl QueueAbstraction for SetAbstraction {
         if !self.good(m, c) {
             return None;
         }
-        let mut left = k;
-        for e in 0..m {
-            if has(c, e) {
-                if left == 0 {
-                    return Some((e, c & u64::from(!bit(e))));
-                }
-                if left == 1 {
-                    return Some((e, c));
-                }
-                left -= 2;
-            }
-        }
-        None
+        let e = nth_event(m, c, k / 2)?;
+        let left = if k % 2 == 0 {
+            c & u64::from(!bit(e))
+        } else {
+            c
+        };
+        Some((e, left))
     }
 }

@@ -38,7 +38,7 @@ fn main(rt: HostRuntime) -> io::Result<()> {
     let again = fire_and_clear(&mut table, SET);
     match (first, again) {
         (Ok(true), Err(fault)) => {
-            let number = fault.number.number();
+            let number = u8::from(fault.number);
             println!(rt; "fired; a table that was written to: refused {number}")
         }
         _ => println!(rt; "not as it should be"),

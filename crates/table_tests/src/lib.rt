@@ -147,7 +147,7 @@ mod tests {
     fn verdict(bytes: &[u8]) -> (u8, u32) {
         match Table::read(bytes) {
             Ok(_) => (0, 0),
-            Err(fault) => (fault.number.number(), fault.a),
+            Err(fault) => (u8::from(fault.number), fault.a),
         }
     }
 

@@ -48,7 +48,7 @@ mod tests {
     }
 
     fn values(fault: Fault) -> (u8, u32, u16, u64) {
-        (fault.number.number(), fault.a, fault.b, fault.c)
+        (u8::from(fault.number), fault.a, fault.b, fault.c)
     }
 
     #[test]

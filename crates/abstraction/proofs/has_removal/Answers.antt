@@ -1,50 +1,23 @@
-use Rattle.std.proofs.Common.{◌≡◌, ℕ, List, Some, sym, refl, ap, ◌∙◌, inl, inr, arith, below_more}
-use Rattle.std.specs.List.{slice_get}
+use Rattle.std.proofs.Common.{◌≡◌, ℕ, ◌<◌, Bool, true, false, List, length, Some, Decides, MatchBool, refl, ap, ◌∙◌, arith, rules, tests}
+use Rattle.std.specs.List.{slice_get, HoldsAt, AllWithin}
 use Rattle.std.proofs.lemmas.Bool.{false≢true}
-use Rattle.abstraction.proofs.Nth.{nth_within, some_same, past}
-use Rattle.abstraction.proofs.Few.{few}
+use Rattle.std.proofs.lemmas.Bool.Decides.{Decides-like}
+use Rattle.std.proofs.lemmas.Iterator.{cases_from_any}
+use Rattle.std.proofs.lemmas.Iterator.Consumers.{YieldsList-from_first}
+use Rattle.std.proofs.lemmas.Option.{slice_get_within, slice_get-get_or, get_or_from_slice_get}
 use Rattle.abstraction.proofs.has_removal.Goals as goal
 
--- the removal that was read, where both its parts are those sought
-found : (xs : List (ℕ × ℕ)) (k e d t l : ℕ) → Some (t, l) ≡ slice_get xs k → t ≡ e → l ≡ d → slice_get xs k ≡ Some (e, d)
-found xs k e d t l h p q = sym h ∙ ap (λ (x : ℕ). Some (x, l)) p ∙ ap (λ (x : ℕ). Some (e, x)) q
-
--- and where one is not
-other : (xs : List (ℕ × ℕ)) (k e d t l : ℕ) → Some (t, l) ≡ slice_get xs k → slice_get xs k ≡ Some (e, d) → (t ≡ e) × (l ≡ d)
-other xs k e d t l h i = let s : (t, l) ≡ (e, d) = some_same (t, l) (e, d) (h ∙ i) in (ap (λ (x : ℕ × ℕ). x.0) s, ap (λ (x : ℕ × ℕ). x.1) s)
-
-pub returns-then-left-d : goal.returns-then-left-d
-returns-then-left-d g c =
-    let a = c.args.abstraction.now in
-    let xs = g.A.QueueAbstraction.removals a c.args.m c.args.c in
-    (λ _. (g.met.A.QueueAbstraction.meaning a).removed _ _ c.loop-taken.k _ _ (found xs c.loop-taken.k _ _ _ _ c.in-Some.ensures c.if-taken-e.true c.if-left-d.true), λ _. refl)
-
-pub overflow_add-k : goal.overflow_add-k
-overflow_add-k g c =
-    let b = few (g.met.A.QueueAbstraction.meaning c.args.abstraction.now) c.args.m c.args.c in
-    record { fits = omega (arith, c.loop-taken.invariant.0) }
-
-pub loop-taken-smaller : goal.loop-taken-smaller
-loop-taken-smaller g c =
-    let xs = g.A.QueueAbstraction.removals c.args.abstraction.now c.args.m c.args.c in
-    let l = nth_within xs c.loop-taken.k _ (sym c.in-Some.ensures) in
-    omega arith
-
-pub loop-taken-preserved : goal.loop-taken-preserved
-loop-taken-preserved g c =
-    let xs = g.A.QueueAbstraction.removals c.args.abstraction.now c.args.m c.args.c in
-    let l = nth_within xs c.loop-taken.k _ (sym c.in-Some.ensures) in (
-      omega arith,
-      below_more _ _ c.loop-taken.invariant.1 (λ i.
-          let o = other xs c.loop-taken.k _ _ _ _ c.in-Some.ensures i in
-          elim c.else-taken-e.either [ inl h ↦ h.1 o.1 | inr h ↦ h o.0 ]),
-    )
+-- whether x stands at some place
+seek : (xs : List (ℕ × ℕ)) (x : ℕ × ℕ) (r : Bool) → MatchBool r ((k : ℕ) × (k < length xs) × HoldsAt (λ y. y ≡ x) xs k) (AllWithin (λ y. y ≡ x → ⊥) xs 0 (length xs)) → Decides r ((k : ℕ) × (slice_get xs k ≡ Some x))
+seek xs x true (k, l, h) = (λ _. (k, slice_get-get_or xs k x l ∙ ap Some (h x)), λ _. refl)
+seek xs x false a = (λ t. absurd (false≢true t), λ (k, h). absurd (a k x (omega arith) (slice_get_within xs k x h) (get_or_from_slice_get xs k x x h)))
 
 pub returns : goal.returns
 returns g c =
-    let law = g.met.A.QueueAbstraction.meaning c.args.abstraction.now in
-    let xs = g.A.QueueAbstraction.removals c.args.abstraction.now c.args.m c.args.c in
-    let l = past xs c.loop-taken.k (0, 0) (sym c.in_default.ensures) in (
-      λ t. absurd (false≢true t),
-      λ r. let (k, h) = law.removes _ _ _ _ r in absurd (c.loop-taken.invariant.1 k (omega (arith, nth_within xs k _ h)) h),
-    )
+    let a = c.args.abstraction.now in
+    let m = c.args.m in
+    let x : ℕ × ℕ = (c.args.e, c.args.d) in
+    let xs = g.A.QueueAbstraction.removals a m c.args.c in
+    let law = g.met.A.QueueAbstraction.meaning a in
+    let s = cases_from_any _ _ _ (λ (y : ℕ × ℕ). y ≡ x) (λ (y : ℕ × ℕ). y ≡ x → ⊥) c.any.ensures.ran (YieldsList-from_first (λ y. y) (λ l. l) xs c.each_removal.ensures.value) (λ y q k. search (rules, tests)) (λ y q k. search (rules, tests)) in
+    Decides-like _ (λ (k, h). law.removed m c.args.c k c.args.e c.args.d h) (λ r. law.removes m c.args.c c.args.e c.args.d r) (seek xs x c.any.result s)

@@ -1,7 +1,7 @@
 use Rattle.std.proofs.Common.{◌≡◌, ℕ, ◌+◌, ◌-◌, ◌*◌, ◌/◌, ◌%◌, ◌^◌, ◌<◌, sym, refl, ap, ◌∙◌, subst, inl, inr, arith}
 use lib.Bits.{bit_or}
 use Rattle.model.specs.Queue.{Bit}
-use Rattle.list_abstraction.proofs.Prefix.{Far, far_start, far_more, far_done, far_few, far_next, has_bit, bit_has}
+use Rattle.list_abstraction.proofs.Prefix.{Far, far_start, far_more, far_done, far_next, has_bit, bit_has}
 use Rattle.list_abstraction.proofs.read.Goals as goal
 
 pub loop-rest-init : goal.loop-rest-init
@@ -10,22 +10,16 @@ loop-rest-init c = far_start c.args.m c.args.c (c.if-not-valid.ensures.0 refl)
 pub returns-then-digit-eq0 : goal.returns-then-digit-eq0
 returns-then-digit-eq0 c g =
     let v = c.if-not-valid.ensures.0 refl in
-    let (e, r, p, l, _) = far_next c.args.m c.args.c v _ _ _ c.loop-rest.invariant g c.loop-rest-test.true in
+    let (e, r, p, l, _) = far_next c.args.m c.args.c v _ _ c.loop-rest.invariant g c.loop-rest-test.true in
     elim c.then-digit-eq0.either [ inl z ↦ omega arith | inr z ↦ omega (arith, z.1) ]
 
 pub returns-then-mask-one : goal.returns-then-mask-one
 returns-then-mask-one c g =
     let v = c.if-not-valid.ensures.0 refl in
-    let (e, r, p, l, n) = far_next c.args.m c.args.c v _ _ _ c.loop-rest.invariant g c.loop-rest-test.true in
+    let (e, r, p, l, n) = far_next c.args.m c.args.c v _ _ c.loop-rest.invariant g c.loop-rest-test.true in
     let q : c.loop-rest.rest % 16 - 1 ≡ e = omega arith in
     let b : c.bit-one.result ≡ 2 ^ e = c.bit-one.ensures.event (omega (arith, l, q, v.few)) ∙ ap (λ (x : ℕ). 2 ^ x) q in
     n (has_bit c.loop-rest.mask e (ap (bit_or c.loop-rest.mask) (sym b) ∙ c.if-mask-one.true))
-
-pub overflow_add-count : goal.overflow_add-count
-overflow_add-count c =
-    let v = c.if-not-valid.ensures.0 refl in
-    let f = far_few c.args.m c.args.c v _ _ _ c.loop-rest.invariant in
-    record { fits = omega arith }
 
 pub loop-rest-preserved : goal.loop-rest-preserved
 loop-rest-preserved c =
@@ -35,13 +29,13 @@ loop-rest-preserved c =
     let z = c.if-digit-eq0.false in
     let p : rest ≡ 16 * (rest / 16) + e + 1 = omega arith in
     let l : e < c.args.m = omega (arith, c.if-digit-m.false) in
-    let f = subst (λ (x : ℕ). Far c.args.m c.args.c x c.loop-rest.mask c.loop-rest.count) p c.loop-rest.invariant in
+    let f = subst (λ (x : ℕ). Far c.args.m c.args.c x c.loop-rest.mask) p c.loop-rest.invariant in
     let o : c.bit-one.result ≡ 2 ^ e = c.bit-one.ensures.event (omega (arith, l, v.few)) in
     let n : Bit c.loop-rest.mask e → ⊥ = λ b. c.if-mask-one.false (ap (bit_or c.loop-rest.mask) o ∙ bit_has c.loop-rest.mask e c.loop-rest.invariant.low (omega arith) b) in
-    subst (λ (x : ℕ). Far c.args.m c.args.c (rest / 16) (bit_or c.loop-rest.mask x) (c.loop-rest.count + 1)) (sym o)
-    (far_more c.args.m c.args.c v (rest / 16) c.loop-rest.mask c.loop-rest.count e f l n)
+    subst (λ (x : ℕ). Far c.args.m c.args.c (rest / 16) (bit_or c.loop-rest.mask x)) (sym o)
+    (far_more c.args.m c.args.c v (rest / 16) c.loop-rest.mask e f l n)
 
 pub returns : goal.returns
 returns c =
     let v = c.if-not-valid.ensures.0 refl in
-    far_done c.args.m c.args.c v _ _ (subst (λ (x : ℕ). Far c.args.m c.args.c x c.loop-rest.mask c.loop-rest.count) c.loop-rest-test.false c.loop-rest.invariant)
+    far_done c.args.m c.args.c v _ (subst (λ (x : ℕ). Far c.args.m c.args.c x c.loop-rest.mask) c.loop-rest-test.false c.loop-rest.invariant)

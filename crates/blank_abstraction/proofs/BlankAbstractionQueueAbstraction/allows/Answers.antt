@@ -1,24 +1,19 @@
-use Rattle.std.proofs.Common.{◌≡◌, ℕ, ◌^◌, ◌<◌, Bool, Decides, sym, subst, arith, rules}
-use Rattle.std.proofs.lemmas.Bool.{ltb-true}
+use Rattle.std.proofs.Common.{ℕ, Bool, Decides, sym, subst, rules}
 use Rattle.std.proofs.lemmas.Bool.Decides.{Decides-eqb}
 use Rattle.model.specs.declared.queue.Front.{Front}
 use Rattle.abstraction.specs.Meaning.{Allowed}
 use Rattle.abstraction.proofs.Calls.{empty_allows}
 use Rattle.blank_abstraction.specs.Blank.{blank_code}
-use Rattle.blank_abstraction.proofs.Allows.{any_answer, event_answer, event_below}
+use Rattle.blank_abstraction.proofs.Allows.{any_answer, event_answer}
 use Rattle.blank_abstraction.proofs.BlankAbstractionQueueAbstraction.allows.Goals as goal
 
 abbrev Answer : ℕ → ℕ → ℕ → Bool → Front → Type 0
 Answer m c mask r front = Decides r (Allowed 0 blank_code m c front mask)
 
--- the test is on the mask as it was cast
-fit : (mask cast m : ℕ) (r : Bool) → cast ≡ mask → Decides r (cast < 2 ^ m) → Decides r (mask < 2 ^ m)
-fit mask cast m r p d = subst (λ (x : ℕ). Decides r (x < 2 ^ m)) p d
-
 pub returns-in-Any : goal.returns-in-Any
 returns-in-Any c =
     subst (Answer c.args.m c.args.c c.args.mask _) (sym c.in-Any.is)
-    (any_answer _ _ _ (search rules) (search rules) (search rules) _ (fit _ _ _ _ c.from.ensures c.fits.ensures))
+    (any_answer _ _ _ (search rules) (search rules) (search rules) _ (rw (c.from.ensures, c.from-2.ensures) at c.fits-exist.ensures))
 
 pub returns-in-Empty : goal.returns-in-Empty
 returns-in-Empty c =
@@ -28,9 +23,4 @@ returns-in-Empty c =
 pub returns-then-e-m : goal.returns-then-e-m
 returns-then-e-m c =
     subst (Answer c.args.m c.args.c c.args.mask _) (sym c.in-Event.is)
-    (event_answer _ _ _ (search rules) (search rules) (search rules) c.in-Event.e _ c.if-e-m.true (fit _ _ _ _ c.from-then-e-m.ensures c.fits-then-e-m.ensures))
-
-pub returns-else-e-m : goal.returns-else-e-m
-returns-else-e-m c =
-    subst (Answer c.args.m c.args.c c.args.mask _) (sym c.in-Event.is)
-    (λ t. absurd (omega (arith, c.if-e-m.false, ltb-true c.in-Event.e c.args.m t)), λ a. absurd (omega (arith, c.if-e-m.false, event_below c.args.m c.args.c c.args.mask (search rules) (search rules) (search rules) c.in-Event.e a)))
+    (event_answer _ _ _ (search rules) (search rules) (search rules) c.in-Event.e _ c.if-e-m.true (rw (c.from.ensures, c.from-2.ensures) at c.fits-exist.ensures))

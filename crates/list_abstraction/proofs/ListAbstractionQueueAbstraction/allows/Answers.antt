@@ -17,7 +17,7 @@ pub returns-in-Any : goal.returns-in-Any
 returns-in-Any c =
     let s = c.in-Some.ensures in
     subst (Answer c.args.m c.args.c c.args.mask _) (sym c.in-Any.is)
-    (list_allows c.args.m c.args.c s.list s.coded c.in-Some.listed.mask c.args.mask s.low s.marks (omega arith) Any tt _ (Decides-eqb (bit_or c.args.mask c.in-Some.listed.mask) c.in-Some.listed.mask))
+    (list_allows c.args.m c.args.c s.list s.coded c.in-Some.listed c.args.mask s.low s.marks (omega arith) Any tt _ (Decides-eqb (bit_or c.args.mask c.in-Some.listed) c.in-Some.listed))
 
 pub returns-then-c-eq0 : goal.returns-then-c-eq0
 returns-then-c-eq0 c =
@@ -33,4 +33,4 @@ returns-then-c-from c =
     let few = s.coded.valid.few in
     let x : e ≡ c.in-Event.e = omega (arith, c.if-c-from.true, c.from.ensures) in
     subst (Answer c.args.m c.args.c c.args.mask _) (sym c.in-Event.is)
-    (list_allows c.args.m c.args.c s.list s.coded c.in-Some.listed.mask c.args.mask s.low s.marks (omega arith) (Event c.in-Event.e) (subst (Begins (Event c.in-Event.e)) (sym q) x) _ (Decides-eqb (bit_or c.args.mask c.in-Some.listed.mask) c.in-Some.listed.mask))
+    (list_allows c.args.m c.args.c s.list s.coded c.in-Some.listed c.args.mask s.low s.marks (omega arith) (Event c.in-Event.e) (subst (Begins (Event c.in-Event.e)) (sym q) x) _ (Decides-eqb (bit_or c.args.mask c.in-Some.listed) c.in-Some.listed))

@@ -3,6 +3,7 @@ use Rattle.std.specs.List.{slice_get}
 use Rattle.abstraction.proofs.Nth.{nth_map, nth_map_none}
 use Rattle.abstraction.proofs.Distinct.{few_below}
 use Rattle.abstraction.proofs.Calls.{no_removal}
+use Rattle.std.specs.Int.RustNames.{count_ones}
 use Rattle.list_abstraction.specs.List.{pack, insertions, list_removals, removals_of}
 use Rattle.list_abstraction.specs.Read.{Seen, Coded}
 use Rattle.list_abstraction.specs.Lists.{pack_below, insertions_all, insertions_apart}
@@ -21,8 +22,8 @@ record Parts (m c count : ℕ) : Type 0 where
   count_is : count ≡ suc (length rest)
   few : count ≤ 8
 
-parts : (m c mask count : ℕ) → Seen m c (record { mask = mask; count = count }) → (c ≡ 0 → ⊥) → Parts m c count
-parts m c mask count s z =
+parts : (m c mask : ℕ) → Seen m c mask → (c ≡ 0 → ⊥) → Parts m c (count_ones mask)
+parts m c mask s z =
     let (e, R, q, l, p) = first_of m c s.list s.coded z in
     let few = s.coded.valid.few in
     record {
@@ -40,20 +41,20 @@ pub returns-in_err-listed : goal.returns-in_err-listed
 returns-in_err-listed c = c.from_residual.ensures ∙ no_removal list_meaning c.args.m c.args.c c.args.k c.in_err-listed.ensures
 
 pub overflow_sub-e : goal.overflow_sub-e
-overflow_sub-e c = (parts _ _ _ _ c.in_ok-listed.ensures c.if-c-eq0.false).some
+overflow_sub-e c = (parts _ _ _ c.in_ok-listed.ensures c.if-c-eq0.false).some
 
 at : (m c count k : ℕ) (p : Parts m c count) → slice_get (list_removals m c) k ≡ slice_get (removals_of (p.first ∷ p.rest)) k
 at m c count k p = ap (λ (xs : List (ℕ × ℕ)). slice_get xs k) (removals_at m c (p.first ∷ p.rest) p.coded)
 
 pub returns-then-k-eq0 : goal.returns-then-k-eq0
 returns-then-k-eq0 c =
-    let p = parts _ _ _ _ c.in_ok-listed.ensures c.if-c-eq0.false in
+    let p = parts _ _ _ c.in_ok-listed.ensures c.if-c-eq0.false in
     sym (at c.args.m c.args.c _ c.args.k p ∙ ap (slice_get (removals_of (p.first ∷ p.rest))) c.if-k-eq0.true
     ∙ ap (λ (x : ℕ). Some (x, pack p.rest)) (sym p.first_is) ∙ ap (λ (x : ℕ). Some (c.args.c % 16 - 1, x)) (sym p.rest_is))
 
 pub returns-then-k-from : goal.returns-then-k-from
 returns-then-k-from c =
-    let p = parts _ _ _ _ c.in_ok-listed.ensures c.if-c-eq0.false in
+    let p = parts _ _ _ c.in_ok-listed.ensures c.if-c-eq0.false in
     let k : c.args.k ≡ suc (c.args.k - 1) = omega (arith, c.if-k-eq0.false) in
     let l : length p.rest < c.args.k - 1 = omega (arith, c.if-k-from.true, c.from.ensures, p.count_is) in
     sym (at c.args.m c.args.c _ c.args.k p ∙ ap (slice_get (removals_of (p.first ∷ p.rest))) k
@@ -61,7 +62,7 @@ returns-then-k-from c =
 
 pub place-here-requires : goal.place-here-requires
 place-here-requires c =
-    let p = parts _ _ _ _ c.in_ok-listed.ensures c.if-c-eq0.false in
+    let p = parts _ _ _ c.in_ok-listed.ensures c.if-c-eq0.false in
     omega (arith, c.if-k-from.false, c.from.ensures, p.few, c.if-k-eq0.false)
 
 -- what is left where the event was put in at place j
@@ -89,8 +90,8 @@ left m c count j wide here p l q h =
       is = at m c count (suc j) p ∙ nth_map (λ (R : List ℕ). (e, pack R)) (insertions e R) j F n ∙ ap (λ (x : ℕ). Some (x, pack F)) (sym p.first_is) ∙ ap (λ (x : ℕ). Some (c % 16 - 1, x)) w;
     }
 
-there : (c : goal.After-from-2) → Left c.args.m c.args.c c.in_ok-listed.listed.count (c.args.k - 1) c.from-2.result c.place-here.result (parts _ _ _ _ c.in_ok-listed.ensures c.if-c-eq0.false)
-there c = left _ _ _ (c.args.k - 1) _ _ (parts _ _ _ _ c.in_ok-listed.ensures c.if-c-eq0.false) (omega (arith, c.if-k-from.false, c.from.ensures, c.if-k-eq0.false)) c.from-2.ensures c.place-here.ensures
+there : (c : goal.After-from-2) → Left c.args.m c.args.c (count_ones c.in_ok-listed.listed) (c.args.k - 1) c.from-2.result c.place-here.result (parts _ _ _ c.in_ok-listed.ensures c.if-c-eq0.false)
+there c = left _ _ _ (c.args.k - 1) _ _ (parts _ _ _ c.in_ok-listed.ensures c.if-c-eq0.false) (omega (arith, c.if-k-from.false, c.from.ensures, c.if-k-eq0.false)) c.from-2.ensures c.place-here.ensures
 
 pub overflow_mul-left-2 : goal.overflow_mul-left-2
 overflow_mul-left-2 c = let t = (there c).value in record { fits = omega arith }

@@ -1,5 +1,6 @@
 // Masks of events: bit e, of value 2^e, stands for event e.
 ghost use Rattle.std.specs.Prelude.{◌≡◌, ◌^◌, ◌<◌, ◌≤◌, Decides};
+ghost use Rattle.model.specs.Queue.{present};
 
 // The mask of one event; nothing from 8 up.
 pub fn bit(e: u8) -> u8
@@ -10,8 +11,15 @@ pub fn bit(e: u8) -> u8
 }
 
 // Does the mask name events below m only?
-pub fn fits(mask: u64, m: u8) -> bool
+pub fn fits(mask: u64, m: u16) -> bool
     ensures { Decides result (mask < 2 ^ m) }
 {
     m >= 64 || mask >> m == 0
+}
+
+// Does the mask name event e?
+pub fn has(mask: u64, e: u8) -> bool
+    ensures { result ≡ present mask e }
+{
+    e < 64 && (mask >> e) % 2 == 1
 }
