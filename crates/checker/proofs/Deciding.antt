@@ -33,11 +33,8 @@ module _ (T : Claim) (law : Means T) (n k : ℕ) (h : Held) (j : Judging T n k h
   entry_code i l c q = ap (λ (x : ℕ × ℕ). x.1) (entry_is i l c q)
 
   -- what is removed from the code that is held is removed from that of record k
-  pub removal_at : (i l d m c : ℕ) (o : Option (ℕ × ℕ)) → (l, d) ≡ get_or (record_in h) i (0, 0) → m ≡ T.system.events → o ≡ slice_get (T.removals m d) c → slice_get (T.removals T.system.events (code_in (record_of T k) i)) c ≡ o
-  removal_at i l d m c o q ev is =
-      ap (λ (z : ℕ). slice_get (T.removals T.system.events z) c) (sym (entry_code i l d q))
-      ∙ ap (λ (z : ℕ). slice_get (T.removals z d) c) (sym ev)
-      ∙ sym is
+  pub removals_at : (i l d m : ℕ) → (l, d) ≡ get_or (record_in h) i (0, 0) → m ≡ T.system.events → T.removals m d ≡ T.removals T.system.events (code_in (record_of T k) i)
+  removals_at i l d m q ev = ap (λ (z : ℕ). T.removals z d) ev ∙ ap (T.removals T.system.events) (entry_code i l d q)
 
   pub enabled_at : (r : ℕ) (x : Rule) (a : Action) (l d : ℕ) → r < length T.system.rules → x ≡ rule_of T.system r → (l, d) ≡ get_or (record_in h) x.machine (0, 0) → l ≡ x.from → x.action ≡ a → Enabled T k r x a
   enabled_at r x a l d lt is q from action = record { below = lt; is = is; action = action; from = sym (ap (λ (z : ℕ × ℕ). z.0) (entry_is x.machine l d q)) ∙ from }

@@ -4,3 +4,4 @@ pub mod Holding
 pub mod Walking
 pub mod Deciding
 pub mod Whole
+pub mod Removing

@@ -19,6 +19,7 @@ use crate::held::{Entry, Held};
 use crate::hints::Hints;
 use crate::parts::events;
 use abstraction::QueueAbstraction;
+use abstraction::removals::each_removal;
 use model::fault::{Fault, Refusal};
 use model::rule::{Action, Rule};
 
@@ -108,10 +109,8 @@ impl<A: QueueAbstraction> Judgement<'_, A> {
         let case = self.judge.case;
         let m = events(&case.table);
         let own = self.held.entry(taker.rule.machine);
-        let mut c = 0;
-        while let Some(removal) = case.abstraction.removal(m, own.code, c) {
-            self.take_inside(hints, taker, event, c, removal)?;
-            c += 1;
+        for (c, removal) in each_removal(case.abstraction, m, own.code).enumerate() {
+            self.take_inside(hints, taker, event, c as u64, removal)?;
         }
         Ok(())
     }

@@ -1,72 +1,55 @@
-use Rattle.std.proofs.Common.{arith, below_more}
+use Rattle.std.proofs.Common.{◌≡◌, ℕ, ◌<◌, length, Some, sym, subst, inl, arith, below_more}
+use Rattle.std.proofs.lemmas.List.{length-drop}
+use Rattle.std.proofs.lemmas.Option.{slice_get_within}
 use Rattle.std.proofs.lemmas.Result.{err_from_is_err_and}
+use Rattle.std.specs.Iterator.Adapters.{enumerate_source, enumerate_count}
+use Rattle.std.specs.List.{slice_get}
 use Rattle.abstraction.proofs.Few.{few}
-use Rattle.abstraction.proofs.Nth.{nth_within, past}
-use Rattle.checker.proofs.Deciding.{removal_at}
+use Rattle.checker.proofs.Removing.{step_some, step_none}
+use Rattle.checker.specs.Case.{claim_at, table_at}
 use Rattle.closed_sets.specs.Judging.{Applies, outside}
 use Rattle.closed_sets.specs.Records.{record_of, code_in}
 use Rattle.table.specs.Layout.{events_n}
-use Rattle.checker.specs.Case.{claim_at, table_at}
 use Rattle.checker.proofs.case.Judgement.check_take.Goals as goal
+
+pub take_inside-requires-clause-removal : goal.take_inside-requires-clause-removal
+take_inside-requires-clause-removal g c =
+    let T = claim_at g.A.QueueAbstraction c.args.self.now in
+    let xs = T.removals (events_n (table_at c.args.self.now)) (code_in (record_of T c.args.self.now.k) c.args.taker.rule.machine) in
+    let n = enumerate_count c.loop-c.c-iterator in
+    let m = enumerate_count c.next.new.self in
+    let s = step_some (enumerate_source c.loop-c.c-iterator) (enumerate_source c.next.new.self) n m xs c.loop-c.invariant.2 c.next.result c.in-Some.c c.in-Some.removal c.in-Some.is c.next.ensures.steps in
+    subst (λ (z : ℕ). slice_get xs z ≡ Some c.in-Some.removal) (sym s.0) s.2
+
+pub loop-c-preserved : goal.loop-c-preserved
+loop-c-preserved g c =
+    let T = claim_at g.A.QueueAbstraction c.args.self.now in
+    let xs = T.removals (events_n (table_at c.args.self.now)) (code_in (record_of T c.args.self.now.k) c.args.taker.rule.machine) in
+    let n = enumerate_count c.loop-c.c-iterator in
+    let m = enumerate_count c.next.new.self in
+    let s = step_some (enumerate_source c.loop-c.c-iterator) (enumerate_source c.next.new.self) n m xs c.loop-c.invariant.2 c.next.result c.in-Some.c c.in-Some.removal c.in-Some.is c.next.ensures.steps in
+    let lt = slice_get_within xs n _ s.2 in
+    let inside = subst (λ (z : ℕ). Applies T (outside c.args.self.now.k c.args.taker.r z) → ⊥) s.0 c.in_ok-take_inside.ensures in
+    let below = below_more (λ j. Applies T (outside c.args.self.now.k c.args.taker.r j) → ⊥) n c.loop-c.invariant.4 inside in
+    (c.in-Some.ensures.goes.keeps, tt, s.3, omega (arith, lt, s.1), λ j h. below j (omega (arith, h, s.1)))
 
 pub returns-in_err-take_inside : goal.returns-in_err-take_inside
 returns-in_err-take_inside g c =
-    let p = c.args.self.now.judge.now.case.now.abstraction.now in
     let T = claim_at g.A.QueueAbstraction c.args.self.now in
-    let law = g.met.A.QueueAbstraction.meaning p in
-    let i = c.args.taker.rule.machine in
-    let at = removal_at T law _ c.args.self.now.k c.args.self.now.held c.requires.sound i _ _ _ c.loop-removal.c _ c.entry-own.ensures c.events-m.ensures c.in-Some.ensures in
-    let lt = nth_within _ c.loop-removal.c _ at in
+    let xs = T.removals (events_n (table_at c.args.self.now)) (code_in (record_of T c.args.self.now.k) c.args.taker.rule.machine) in
+    let n = enumerate_count c.loop-c.c-iterator in
+    let m = enumerate_count c.next.new.self in
+    let s = step_some (enumerate_source c.loop-c.c-iterator) (enumerate_source c.next.new.self) n m xs c.loop-c.invariant.2 c.next.result c.in-Some.c c.in-Some.removal c.in-Some.is c.next.ensures.steps in
+    let lt = slice_get_within xs n _ s.2 in
     let e = err_from_is_err_and c.from_residual.result c.from_residual.ensures.1 in
     let b = c.in_err-take_inside.ensures in
-    rw (e.1, e.2) (record { finding = b.finding; numbered = b.numbered; first = (c.loop-removal.c, lt, b.first, c.loop-removal.invariant.1) })
-
-pub overflow_add-c : goal.overflow_add-c
-overflow_add-c g c =
-    let p = c.args.self.now.judge.now.case.now.abstraction.now in
-    let T = claim_at g.A.QueueAbstraction c.args.self.now in
-    let law = g.met.A.QueueAbstraction.meaning p in
-    let i = c.args.taker.rule.machine in
-    let at = removal_at T law _ c.args.self.now.k c.args.self.now.held c.requires.sound i _ _ _ c.loop-removal.c _ c.entry-own.ensures c.events-m.ensures c.in-Some.ensures in
-    let lt = nth_within _ c.loop-removal.c _ at in
-    let f = few law (events_n (table_at c.args.self.now)) (code_in (record_of T c.args.self.now.k) i) in
-    record { fits = omega (arith, lt, f) }
-
-pub loop-removal-smaller : goal.loop-removal-smaller
-loop-removal-smaller g c =
-    let p = c.args.self.now.judge.now.case.now.abstraction.now in
-    let T = claim_at g.A.QueueAbstraction c.args.self.now in
-    let law = g.met.A.QueueAbstraction.meaning p in
-    let i = c.args.taker.rule.machine in
-    let at = removal_at T law _ c.args.self.now.k c.args.self.now.held c.requires.sound i _ _ _ c.loop-removal.c _ c.entry-own.ensures c.events-m.ensures c.in-Some.ensures in
-    let lt = nth_within _ c.loop-removal.c _ at in
-    omega (arith, lt)
-
-pub loop-removal-preserved : goal.loop-removal-preserved
-loop-removal-preserved g c =
-    let p = c.args.self.now.judge.now.case.now.abstraction.now in
-    let T = claim_at g.A.QueueAbstraction c.args.self.now in
-    let law = g.met.A.QueueAbstraction.meaning p in
-    let i = c.args.taker.rule.machine in
-    let at = removal_at T law _ c.args.self.now.k c.args.self.now.held c.requires.sound i _ _ _ c.loop-removal.c _ c.entry-own.ensures c.events-m.ensures c.in-Some.ensures in
-    let lt = nth_within _ c.loop-removal.c _ at in
-    (omega (arith, lt), below_more (λ j. Applies T (outside c.args.self.now.k c.args.taker.r j) → ⊥) c.loop-removal.c c.loop-removal.invariant.1 c.in_ok-take_inside.ensures)
-
-pub take_inside-requires : goal.take_inside-requires
-take_inside-requires g c =
-    let p = c.args.self.now.judge.now.case.now.abstraction.now in
-    let T = claim_at g.A.QueueAbstraction c.args.self.now in
-    let law = g.met.A.QueueAbstraction.meaning p in
-    let i = c.args.taker.rule.machine in
-    let at = removal_at T law _ c.args.self.now.k c.args.self.now.held c.requires.sound i _ _ _ c.loop-removal.c _ c.entry-own.ensures c.events-m.ensures c.in-Some.ensures in
-    record { sound = c.requires.sound; enabled = c.requires.enabled; below = c.requires.below; removal = at }
+    rw (e.1, e.2) (record { finding = b.finding; numbered = b.numbered; first = (c.in-Some.c, omega (arith, lt, s.0), b.first, λ j h. c.loop-c.invariant.4 j (omega (arith, h, s.0))) })
 
 pub returns : goal.returns
 returns g c =
-    let p = c.args.self.now.judge.now.case.now.abstraction.now in
     let T = claim_at g.A.QueueAbstraction c.args.self.now in
-    let law = g.met.A.QueueAbstraction.meaning p in
-    let i = c.args.taker.rule.machine in
-    let at = removal_at T law _ c.args.self.now.k c.args.self.now.held c.requires.sound i _ _ _ c.loop-removal.c _ c.entry-own.ensures c.events-m.ensures c.in_default.ensures in
-    let end = past _ c.loop-removal.c (0, 0) at in
-    λ j h. c.loop-removal.invariant.1 j (omega (arith, end))
+    let xs = T.removals (events_n (table_at c.args.self.now)) (code_in (record_of T c.args.self.now.k) c.args.taker.rule.machine) in
+    let n = enumerate_count c.loop-c.c-iterator in
+    let m = enumerate_count c.next.new.self in
+    let end = step_none (enumerate_source c.loop-c.c-iterator) (enumerate_source c.next.new.self) n m xs c.loop-c.invariant.2 c.next.result c.in-None.is c.next.ensures.steps in
+    λ j h. c.loop-c.invariant.4 j (omega (arith, end, h))

@@ -1,14 +1,19 @@
-use Rattle.std.proofs.Common.{ℕ, ◌-◌, ◌<◌, ◌≤◌, length}
+-- The outcomes whose removals were taken stay inside; those left are the others.
+use Rattle.std.proofs.Common.{◌≡◌, ℕ, ◌<◌, ◌≤◌, length, drop}
+use Rattle.std.specs.Iterator.Adapters.{enumerate_source, enumerate_count}
 use Rattle.closed_sets.specs.Judging.{Applies, outside}
 use Rattle.closed_sets.specs.Records.{code_in, record_of}
 use Rattle.table.specs.Layout.{events_n}
 use Rattle.checker.specs.Case.{claim_at, table_at}
 use Rattle.checker.proofs.case.Judgement.check_take.Given as goal
 
-abbrev pub invariant-loop-removal : goal.invariant-loop-removal
-invariant-loop-removal g l = let T = claim_at g.A.QueueAbstraction l.self in
-    (l.c ≤ length (g.A.QueueAbstraction.removals l.self.judge.now.case.now.abstraction.now (events_n (table_at l.self)) (code_in (record_of T l.self.k) l.taker.rule.machine))) × ((j : ℕ) → j < l.c → Applies T (outside l.self.k l.taker.r j) → ⊥)
-
-abbrev pub decreases-loop-removal : goal.decreases-loop-removal
-decreases-loop-removal g l = let T = claim_at g.A.QueueAbstraction l.self in
-    length (g.A.QueueAbstraction.removals l.self.judge.now.case.now.abstraction.now (events_n (table_at l.self)) (code_in (record_of T l.self.k) l.taker.rule.machine)) - l.c
+abbrev pub invariant-loop-c : goal.invariant-loop-c
+invariant-loop-c g l =
+    let T = claim_at g.A.QueueAbstraction l.self in
+    let xs = T.removals (events_n (table_at l.self)) (code_in (record_of T l.self.k) l.taker.rule.machine) in
+    let n = enumerate_count l.c-iterator in
+    (goal.iterator-loop-c g).can_next l.c-iterator
+    × (goal.iterator-loop-c g).is_finite l.c-iterator
+    × (enumerate_source l.c-iterator ≡ drop n xs)
+    × (n ≤ length xs)
+    × ((j : ℕ) → j < n → Applies T (outside l.self.k l.taker.r j) → ⊥)
