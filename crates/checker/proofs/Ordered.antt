@@ -1,6 +1,6 @@
 -- Runs of bytes in order, and the records that they are. Assumes nothing.
 use Rattle.std.proofs.Common.{◌≡◌, ℕ, zero, suc, ◌+◌, ◌-◌, ◌*◌, ◌/◌, ◌%◌, ◌^◌, ◌<◌, ◌≤◌, Bool, cond, List, length, get_or, sym, refl, ap, ◌∙◌, subst, inl, inr, mul-le-mul_left, mul-suc, arith, Ordering, nat_cmp}
-use Rattle.std.specs.Ordering.{MatchOrdering, ordering_then}
+use Rattle.std.specs.Ordering.{MatchOrdering}
 use Rattle.std.specs.declared.cmp.Ordering.TheVariants.{Less, Equal, Greater}
 use Rattle.std.specs.Cmp.{ranks}
 use Rattle.std.proofs.lemmas.Bool.{cases_lt, cases_eq, ne_eqb}
@@ -226,13 +226,12 @@ module _ (n i : ℕ) (f g p q : ℕ → ℕ) (h : i < n) (same : Same (9 * i) f 
         | inr ge ↦ (let k : 9 * i + (t - 9 * i) ≡ t = omega arith in subst (λ (z : ℕ). f z ≡ g z) k (fp (t - 9 * i) (omega arith) ∙ e (t - 9 * i) (omega arith) ∙ sym (gq (t - 9 * i) (omega arith))))
       ]
 
--- the entry that stands at o and another, compared by their local states and then by their swapped codes
+-- the entry that stands at o and another, compared by their local states and then by their codes, read with the first byte the highest
 module _ (bs : List ℕ) (bytes : (i : ℕ) → get_or bs i 0 < 256) (o m b : ℕ) (small : b < 2 ^ 64) where
-  Stands : Ordering → Type 0
+  abbrev pub Stands : Ordering → Type 0
   Stands x = MatchOrdering x (Before 9 (entry_byte bs o) (byte_in (m, b))) (Same 9 (entry_byte bs o) (byte_in (m, b)) × (b < 2 ^ 64)) (Before 9 (byte_in (m, b)) (entry_byte bs o))
 
   by_code : (x : Ordering) → get_or bs o 0 ≡ m → MatchOrdering x (swapped (long_at bs (o + 1)) < swapped b) (swapped (long_at bs (o + 1)) ≡ swapped b) (swapped b < swapped (long_at bs (o + 1))) → Stands x
-  unfolding Stands
   by_code Less e h = before_left 9 (byte_in (get_or bs o 0, long_at bs (o + 1))) (byte_in (m, b)) (entry_byte bs o) (codes_before (get_or bs o 0) m (long_at bs (o + 1)) b e (swapped_before (long_at bs (o + 1)) b h)) (byte_is bs bytes o)
   by_code Equal e h = ((λ t l. byte_is bs bytes o t l ∙ ap (λ (z : ℕ). byte_in (z, long_at bs (o + 1)) t) e ∙ ap (λ (z : ℕ). byte_in (m, z) t) (swapped_same (long_at bs (o + 1)) b (long_small bs bytes (o + 1)) small h)), small)
   by_code Greater e h = before_right 9 (byte_in (m, b)) (byte_in (get_or bs o 0, long_at bs (o + 1))) (entry_byte bs o) (codes_before m (get_or bs o 0) b (long_at bs (o + 1)) (sym e) (swapped_before b (long_at bs (o + 1)) h)) (byte_is bs bytes o)
@@ -243,15 +242,20 @@ module _ (bs : List ℕ) (bytes : (i : ℕ) → get_or bs i 0 < 256) (o m b : �
   first_in : byte_in (m, b) 0 ≡ m
   first_in = refl
 
-  by_local : (x : Ordering) → MatchOrdering x (get_or bs o 0 < m) (get_or bs o 0 ≡ m) (m < get_or bs o 0) → Stands (ordering_then x (nat_cmp (swapped (long_at bs (o + 1))) (swapped b)))
-  unfolding Stands
-  by_local Less h = (0, omega arith, (λ t l. absurd (omega (arith, l))), omega (arith, h, first, first_in))
-  by_local Equal h = by_code (nat_cmp (swapped (long_at bs (o + 1))) (swapped b)) h (ranks (swapped (long_at bs (o + 1))) (swapped b))
-  by_local Greater h = (0, omega arith, (λ t l. absurd (omega (arith, l))), omega (arith, h, first, first_in))
+  by_local : (x : Ordering) → (x ≡ Equal → ⊥) → MatchOrdering x (get_or bs o 0 < m) (get_or bs o 0 ≡ m) (m < get_or bs o 0) → Stands x
+  by_local Less ne h = (0, omega arith, (λ t l. absurd (omega (arith, l))), omega (arith, h, first, first_in))
+  by_local Equal ne h = absurd (ne refl)
+  by_local Greater ne h = (0, omega arith, (λ t l. absurd (omega (arith, l))), omega (arith, h, first, first_in))
 
-  pub entry_stands : (x : Ordering) → x ≡ ordering_then (nat_cmp (get_or bs o 0) m) (nat_cmp (swapped (long_at bs (o + 1))) (swapped b)) → MatchOrdering x (Before 9 (entry_byte bs o) (byte_in (m, b))) (Same 9 (entry_byte bs o) (byte_in (m, b)) × (b < 2 ^ 64)) (Before 9 (byte_in (m, b)) (entry_byte bs o))
-  unfolding Stands
-  entry_stands x e = subst Stands (sym e) (by_local (nat_cmp (get_or bs o 0) m) (ranks (get_or bs o 0) m))
+  abbrev Ranked : ℕ → ℕ → Ordering → Type 0
+  Ranked y z x = MatchOrdering x (y < z) (y ≡ z) (z < y)
+
+  -- where the local states are the same, the codes say
+  pub codes_stand : (x : Ordering) → nat_cmp (get_or bs o 0) m ≡ Equal → x ≡ nat_cmp (swapped (long_at bs (o + 1))) (swapped b) → Stands x
+  codes_stand x e h = by_code x (subst (Ranked (get_or bs o 0) m) e (ranks (get_or bs o 0) m)) (subst (Ranked (swapped (long_at bs (o + 1))) (swapped b)) (sym h) (ranks (swapped (long_at bs (o + 1))) (swapped b)))
+
+  pub locals_stand : (x : Ordering) → (x ≡ Equal → ⊥) → x ≡ nat_cmp (get_or bs o 0) m → Stands x
+  locals_stand x ne h = by_local x ne (subst (Ranked (get_or bs o 0) m) (sym h) (ranks (get_or bs o 0) m))
 
 -- an answer that is not Equal is one of the other two
 pub apart : {P P' R R' : Type 0} (Q Q' : Type 0) (x : Ordering) → (x ≡ Equal → ⊥) → (P → P') → (R → R') → MatchOrdering x P Q R → MatchOrdering x P' Q' R'

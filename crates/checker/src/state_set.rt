@@ -125,7 +125,8 @@ fn long(bytes: &[u8], at: usize) -> u64
     requires { at + 7 < length bytes.now }
     ensures { result ≡ long_at bytes.now at }
 {
-    u64::from_le_bytes(*bytes[at..].first_chunk().unwrap())
+    // a slice of eight, whose length is not tested: `first_chunk` of the rest tests it at each entry compared
+    u64::from_le_bytes(*bytes[at..at + 8].as_array().unwrap())
 }
 
 // How the entry at `at` compares with another, as byte strings.
@@ -134,9 +135,11 @@ fn compare_entry(set: &[u8], at: usize, entry: Entry) -> Ordering
     requires { at + 8 < length set.now }
     ensures { MatchOrdering result (Before 9 (entry_byte set.now at) (byte_in (entry_of entry))) (Same 9 (entry_byte set.now at) (byte_in (entry_of entry)) × (entry.code < 2 ^ 64)) (Before 9 (byte_in (entry_of entry)) (entry_byte set.now at)) }
 {
-    // the low byte of a code comes first
-    let codes = long(set, at + 1).swap_bytes().cmp(&entry.code.swap_bytes());
-    set[at].cmp(&entry.local).then(codes)
+    match set[at].cmp(&entry.local) {
+        // the low byte of a code comes first
+        Ordering::Equal => long(set, at + 1).swap_bytes().cmp(&entry.code.swap_bytes()),
+        apart => apart,
+    }
 }
 
 // How record `k` of the set compares with another, as byte strings; a record that is the other has its bytes.
