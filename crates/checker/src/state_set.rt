@@ -2,6 +2,7 @@
 ghost use Rattle.std.specs.Prelude.{◌≡◌, ℕ, ◌+◌, ◌-◌, ◌*◌, ◌/◌, ◌^◌, ◌<◌, ◌≤◌, length, Decides};
 ghost use Rattle.std.specs.Ordering.{MatchOrdering};
 ghost use Rattle.closed_sets.specs.Records.{code_in};
+ghost use Rattle.table.specs.Bytes.{byte_at};
 ghost use Rattle.checker.specs.Held.{entry_of, record_in};
 ghost use Rattle.checker.specs.Inner.{Found, ListedIn};
 ghost use Rattle.checker.specs.SetFile.{records_n, long_at, record_at, records_of, SetReady, entry_byte, byte_in, byte_of, record_byte, Before, Same};
@@ -53,12 +54,8 @@ impl<'a> StateSet<'a> {
     {
         let mut entries = [Entry { local: 0, code: 0 }; MOST_MACHINES];
         let start = start(n, k);
-        for i in 0..n as usize {
-            let at = start + ENTRY_LENGTH * i;
-            entries[i] = Entry {
-                local: self.bytes[at],
-                code: long(self.bytes, at + 1),
-            };
+        for (i, entry) in entries[..n as usize].iter_mut().enumerate() {
+            *entry = entry_at(self.bytes, start + ENTRY_LENGTH * i);
         }
         Held {
             machines: n,
@@ -129,6 +126,17 @@ fn long(bytes: &[u8], at: usize) -> u64
     u64::from_le_bytes(*bytes[at..at + 8].as_array().unwrap())
 }
 
+// The entry at `at`.
+fn entry_at(bytes: &[u8], at: usize) -> Entry
+    requires { at + 8 < length bytes.now }
+    ensures { entry_of result ≡ (byte_at bytes.now at, long_at bytes.now (at + 1)) }
+{
+    Entry {
+        local: bytes[at],
+        code: long(bytes, at + 1),
+    }
+}
+
 // How the entry at `at` compares with another, as byte strings.
 // No method: that a byte is below 256 is known of a slice that is passed, and not of one in a struct.
 fn compare_entry(set: &[u8], at: usize, entry: Entry) -> Ordering
@@ -149,6 +157,7 @@ fn compare(set: &[u8], k: u16, target: &Held) -> Ordering
     ensures alike { (j : ℕ) → record_at target.now.machines set.now j ≡ record_in target.now → Same (9 * target.now.machines) (record_byte target.now.machines set.now j) (byte_of (record_in target.now)) }
 {
     let start = start(target.machines, k);
+    // by number, which also says where in the set the entry stands
     for i in 0..target.machines {
         match compare_entry(set, start + ENTRY_LENGTH * i as usize, target.entry(i)) {
             Ordering::Equal => {}
