@@ -53,17 +53,16 @@ pub(crate) fn pattern_line(table: &Table<'_>, l: u16) -> PatternLine
 pub(crate) fn takes(rule: Rule, machine: u8, local: u8, event: u8) -> bool
     ensures { Decides result (Takes rule machine local event) }
 {
-    let taken = match rule.action {
-        Action::Take { event: e } => e == event,
-        _ => false,
-    };
-    rule.machine == machine && rule.from == local && taken
+    rule.machine == machine
+        && rule.from == local
+        && matches!(rule.action, Action::Take { event: e } if e == event)
 }
 
 // Whether no rule lets a machine in a local state take an event.
 pub(crate) fn no_take(table: &Table<'_>, machine: u8, local: u8, event: u8) -> bool
     ensures { Decides result (NoTake (system_of table.now.bytes.now) machine local event) }
 {
+    // rules go by number; `all` over the numbers is no shorter to prove than this loop, which needs one answer
     for r in 0..table.rule_count() {
         if takes(rule(table, r), machine, local, event) {
             return false;

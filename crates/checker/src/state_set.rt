@@ -2,6 +2,7 @@
 ghost use Rattle.std.specs.Prelude.{◌≡◌, ℕ, ◌+◌, ◌-◌, ◌*◌, ◌/◌, ◌^◌, ◌<◌, ◌≤◌, length, Decides};
 ghost use Rattle.std.specs.Ordering.{MatchOrdering};
 ghost use Rattle.closed_sets.specs.Records.{code_in};
+ghost use Rattle.table.specs.Bytes.{byte_at};
 ghost use Rattle.checker.specs.Held.{entry_of, record_in};
 ghost use Rattle.checker.specs.Inner.{Found, ListedIn};
 ghost use Rattle.checker.specs.SetFile.{records_n, long_at, record_at, records_of, SetReady, entry_byte, byte_in, byte_of, record_byte, Before, Same};
@@ -53,12 +54,8 @@ impl<'a> StateSet<'a> {
     {
         let mut entries = [Entry { local: 0, code: 0 }; MOST_MACHINES];
         let start = start(n, k);
-        for i in 0..n as usize {
-            let at = start + ENTRY_LENGTH * i;
-            entries[i] = Entry {
-                local: self.bytes[at],
-                code: long(self.bytes, at + 1),
-            };
+        for (i, entry) in entries[..n as usize].iter_mut().enumerate() {
+            *entry = entry_at(self.bytes, start + ENTRY_LENGTH * i);
         }
         Held {
             machines: n,
@@ -125,7 +122,19 @@ fn long(bytes: &[u8], at: usize) -> u64
     requires { at + 7 < length bytes.now }
     ensures { result ≡ long_at bytes.now at }
 {
-    u64::from_le_bytes(*bytes[at..].first_chunk().unwrap())
+    // a slice of eight, whose length is not tested: `first_chunk` of the rest tests it at each entry compared
+    u64::from_le_bytes(*bytes[at..at + 8].as_array().unwrap())
+}
+
+// The entry at `at`.
+fn entry_at(bytes: &[u8], at: usize) -> Entry
+    requires { at + 8 < length bytes.now }
+    ensures { entry_of result ≡ (byte_at bytes.now at, long_at bytes.now (at + 1)) }
+{
+    Entry {
+        local: bytes[at],
+        code: long(bytes, at + 1),
+    }
 }
 
 // How the entry at `at` compares with another, as byte strings.
@@ -134,9 +143,11 @@ fn compare_entry(set: &[u8], at: usize, entry: Entry) -> Ordering
     requires { at + 8 < length set.now }
     ensures { MatchOrdering result (Before 9 (entry_byte set.now at) (byte_in (entry_of entry))) (Same 9 (entry_byte set.now at) (byte_in (entry_of entry)) × (entry.code < 2 ^ 64)) (Before 9 (byte_in (entry_of entry)) (entry_byte set.now at)) }
 {
-    // the low byte of a code comes first
-    let codes = long(set, at + 1).swap_bytes().cmp(&entry.code.swap_bytes());
-    set[at].cmp(&entry.local).then(codes)
+    match set[at].cmp(&entry.local) {
+        // the low byte of a code comes first
+        Ordering::Equal => long(set, at + 1).swap_bytes().cmp(&entry.code.swap_bytes()),
+        apart => apart,
+    }
 }
 
 // How record `k` of the set compares with another, as byte strings; a record that is the other has its bytes.
@@ -146,6 +157,7 @@ fn compare(set: &[u8], k: u16, target: &Held) -> Ordering
     ensures alike { (j : ℕ) → record_at target.now.machines set.now j ≡ record_in target.now → Same (9 * target.now.machines) (record_byte target.now.machines set.now j) (byte_of (record_in target.now)) }
 {
     let start = start(target.machines, k);
+    // by number, which also says where in the set the entry stands
     for i in 0..target.machines {
         match compare_entry(set, start + ENTRY_LENGTH * i as usize, target.entry(i)) {
             Ordering::Equal => {}

@@ -1,20 +1,18 @@
-use Rattle.std.proofs.Common.{◌≡◌, is_some, Some, sym, ap, ◌∙◌, arith}
+use Rattle.std.proofs.Common.{◌≡◌, ℕ, ◌<◌, List, is_some, Some, sym, ap, ◌∙◌, arith}
 use Rattle.std.proofs.lemmas.Option.{slice_get-get_or}
+use Rattle.std.specs.List.{slice_get}
 use Rattle.abstraction.proofs.Nth.{some_same}
-use Rattle.model.specs.declared.rule.Action.TheVariants.{Local}
 use Rattle.model.specs.System.{rule_of}
 use Rattle.table.proofs.Parts.{rules_long}
+use Rattle.table.specs.Layout.{rules_n}
 use Rattle.table.specs.SystemOf.{system_of}
 use Rattle.checker.proofs.parts.rule.Goals as goal
 
+there : (bs : List ℕ) (r : ℕ) → r < rules_n bs → slice_get (system_of bs).rules r ≡ Some (rule_of (system_of bs) r)
+there bs r h = slice_get-get_or (system_of bs).rules r _ (omega (arith, rules_long bs))
+
 pub unwrap-requires : goal.unwrap-requires
-unwrap-requires c =
-    let S = system_of c.args.table.now.bytes.now in
-    let e : c.rule.result ≡ Some (rule_of S c.args.r) = c.rule.ensures ∙ slice_get-get_or S.rules c.args.r (record { machine = 0; from = 0; to = 0; action = Local }) (omega (arith, rules_long c.args.table.now.bytes.now)) in
-    ap is_some e
+unwrap-requires c = ap is_some (c.rule.ensures ∙ there c.args.table.now.bytes.now c.args.r c.requires)
 
 pub returns : goal.returns
-returns c =
-    let S = system_of c.args.table.now.bytes.now in
-    let e : c.rule.result ≡ Some (rule_of S c.args.r) = c.rule.ensures ∙ slice_get-get_or S.rules c.args.r (record { machine = 0; from = 0; to = 0; action = Local }) (omega (arith, rules_long c.args.table.now.bytes.now)) in
-    some_same c.unwrap.result (rule_of S c.args.r) (sym c.unwrap.ensures ∙ e)
+returns c = some_same c.unwrap.result _ (sym c.unwrap.ensures ∙ c.rule.ensures ∙ there c.args.table.now.bytes.now c.args.r c.requires)

@@ -1,6 +1,6 @@
-use Rattle.std.proofs.Common.{◌≡◌, ℕ, ◌+◌, ◌*◌, ◌/◌, ◌^◌, ◌<◌, get_or, sym, ap, ◌∙◌, subst, inl, inr, arith}
+use Rattle.std.proofs.Common.{◌≡◌, ℕ, ◌+◌, ◌*◌, ◌/◌, ◌^◌, ◌<◌, subst, inl, inr, arith}
 use Rattle.std.proofs.lemmas.Bool.{cases_lt}
-use Rattle.checker.proofs.Ordered.{apart, byte_of_lem, before_on, same_on, same_sym, same_bytes}
+use Rattle.checker.proofs.Ordered.{apart, entry_there, entry_here, before_on, same_on, same_sym, same_bytes}
 use Rattle.checker.specs.Held.{entry_of, record_in}
 use Rattle.checker.specs.SetFile.{record_byte, entry_byte, byte_in, byte_of}
 use Rattle.closed_sets.specs.Records.{code_in}
@@ -14,8 +14,8 @@ returns-in_default c =
     let r = record_in c.args.target.now in
     let i = c.loop-i.i in
     let o = c.start-start.result + 9 * i in
-    let there : (s : ℕ) → s < 9 → record_byte n bs k (9 * i + s) ≡ entry_byte bs o s = λ s l. let e : 16 + 9 * n * k + (9 * i + s) ≡ o + s = omega (arith, c.start-start.ensures) in ap (λ (z : ℕ). get_or bs z 0) e in
-    let here : (s : ℕ) → s < 9 → byte_of r (9 * i + s) ≡ byte_in (entry_of c.entry.result) s = λ s l. byte_of_lem n bs k r i s l ∙ ap (λ (z : ℕ × ℕ). byte_in z s) (sym c.entry.ensures) in
+    let there = entry_there n bs k r i o (omega (arith, c.start-start.ensures)) in
+    let here = entry_here n bs k r i (entry_of c.entry.result) c.entry.ensures in
     let same = c.loop-i.invariant.0 in
     record {
       order =
@@ -36,8 +36,8 @@ loop-i-preserved c =
     let o = c.start-start.result + 9 * i in
     let q = c.in-Equal.ensures in (
       same_on n i (record_byte n bs k) (byte_of r) (entry_byte bs o) (byte_in (entry_of c.entry.result)) c.loop-i-test.true c.loop-i.invariant.0
-          (λ s l. let e : 16 + 9 * n * k + (9 * i + s) ≡ o + s = omega (arith, c.start-start.ensures) in ap (λ (z : ℕ). get_or bs z 0) e)
-          (λ s l. byte_of_lem n bs k r i s l ∙ ap (λ (z : ℕ × ℕ). byte_in z s) (sym c.entry.ensures))
+          (entry_there n bs k r i o (omega (arith, c.start-start.ensures)))
+          (entry_here n bs k r i (entry_of c.entry.result) c.entry.ensures)
           q.0,
       (λ j l. elim (cases_lt j (9 * i)) [
         | inl lt ↦ c.loop-i.invariant.1 j lt

@@ -1,17 +1,23 @@
-use Rattle.std.proofs.Common.{◌≡◌, ◌+◌, ◌^◌, ◌<◌, ap, ◌∙◌, arith, ℕ, Ordering, nat_cmp}
-use Rattle.std.specs.Ordering.{ordering_then}
-use Rattle.checker.proofs.Ordered.{swapped, entry_stands}
+use Rattle.std.proofs.Common.{◌≡◌, ◌+◌, ◌^◌, ◌<◌, ℕ, nat_cmp, sym, ap, ◌∙◌, arith}
+use Rattle.checker.proofs.Ordered.{swapped, codes_stand, locals_stand}
 use Rattle.checker.specs.SetFile.{long_at}
 use Rattle.checker.proofs.state_set.compare_entry.Goals as goal
 
-pub returns : goal.returns
+pub returns-in-Equal : goal.returns-in-Equal
 unfolding swapped
-returns c =
+returns-in-Equal c =
     let bs = c.args.set.now in
     let o = c.args.at in
     let e = c.args.entry in
     let small : e.code < 2 ^ 64 = omega arith in
     let there : c.swap_bytes.result ≡ swapped (long_at bs (o + 1)) = omega (arith, c.swap_bytes.ensures, c.long.ensures) in
-    let here : c.swap_bytes-2.result ≡ swapped e.code = omega (arith, c.swap_bytes-2.ensures) in
-    entry_stands bs (λ t. (c.type_inv.set t).fits) o e.local e.code small c.then.result
-    (c.then.ensures ∙ ap (λ (x : Ordering). ordering_then x c.cmp-codes.result) c.cmp.ensures ∙ ap (ordering_then (nat_cmp _ e.local)) (c.cmp-codes.ensures ∙ ap (λ (x : ℕ). nat_cmp x c.swap_bytes-2.result) there ∙ ap (nat_cmp (swapped (long_at bs (o + 1)))) here))
+    let here : c.swap_bytes-in-Equal.result ≡ swapped e.code = omega (arith, c.swap_bytes-in-Equal.ensures) in
+    codes_stand bs (λ t. (c.type_inv.set t).fits) o e.local e.code small c.cmp-in-Equal.result
+    (sym c.cmp.ensures ∙ c.in-Equal.is)
+    (c.cmp-in-Equal.ensures ∙ ap (λ (x : ℕ). nat_cmp x c.swap_bytes-in-Equal.result) there ∙ ap (nat_cmp (swapped (long_at bs (o + 1)))) here)
+
+pub returns-in_default : goal.returns-in_default
+returns-in_default c =
+    let e = c.args.entry in
+    let small : e.code < 2 ^ 64 = omega arith in
+    locals_stand c.args.set.now (λ t. (c.type_inv.set t).fits) c.args.at e.local e.code small c.cmp.result c.in_default.not-Equal c.cmp.ensures

@@ -5,4 +5,4 @@ use Rattle.checker.specs.SetFile.{long_at}
 use Rattle.checker.proofs.state_set.StateSet.record.Given as goal
 
 abbrev pub invariant-loop-i : goal.invariant-loop-i
-invariant-loop-i l = (length l.entries ≡ 6) × ((j : ℕ) → j < l.i → entry_of (get_or l.entries j blank) ≡ (get_or l.self.bytes.now (16 + 9 * l.n * l.k + 9 * j) 0, long_at l.self.bytes.now (16 + 9 * l.n * l.k + 9 * j + 1)))
+invariant-loop-i l = (length l.entry-items ≡ l.n) × ((j : ℕ) → j < l.i → entry_of (get_or l.entry-items j blank) ≡ (get_or l.self.bytes.now (l.start + 9 * j) 0, long_at l.self.bytes.now (l.start + 9 * j + 1)))
