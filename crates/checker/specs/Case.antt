@@ -15,11 +15,11 @@ use Rattle.checker.specs.declared.case.Judgement.{Judgement}
 
 -- what the set of a case claims of the table's system, under the abstraction
 abbrev pub claim : {A : Type 0} → queue_abstraction.Ghosts A → Case A → Claim
-claim q c = claim_of c.table.bytes.now c.set.bytes.now (q.bits c.abstraction.now) (q.code c.abstraction.now) (q.removals c.abstraction.now)
+claim q c = claim_of c.table.view.bytes.now c.set.bytes.now (q.bits c.abstraction.now) (q.code c.abstraction.now) (q.removals c.abstraction.now)
 
 -- what is answered of a case: the first that applies of what an order lists, or that nothing does
 abbrev pub FindsFirst : {A : Type 0} → queue_abstraction.Ghosts A → Case A → Order Finding → Result (Unit {0}) Fault → Type 0
-FindsFirst q c order r = Answered (Applies c.table.bytes.now c.set.bytes.now (claim q c)) (numbers c.table.bytes.now) order r
+FindsFirst q c order r = Answered (Applies c.table.view.bytes.now c.set.bytes.now (claim q c)) (numbers c.table.view.bytes.now) order r
 
 -- every record of the set is sound
 abbrev pub AllSound : {A : Type 0} → queue_abstraction.Ghosts A → Case A → Type 0
@@ -31,7 +31,7 @@ claim_at q j = claim q j.judge.now.case.now
 
 -- the bytes of its table
 abbrev pub table_at : {A : Type 0} → Judgement A → List ℕ
-table_at j = j.judge.now.case.now.table.bytes.now
+table_at j = j.judge.now.case.now.table.view.bytes.now
 
 -- the bytes of its set
 abbrev pub set_at : {A : Type 0} → Judgement A → List ℕ

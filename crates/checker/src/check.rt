@@ -8,6 +8,7 @@ ghost use Rattle.checker.specs.SetFile.{claim_of, SetReady};
 ghost use Rattle.checker.specs.Verdict.{closed_order, set_order};
 
 use crate::case::{Case, Judge};
+use crate::parts::ReadTable;
 use crate::pass::{FULL_CAPACITY, Pass};
 use crate::plan::Plan;
 use crate::state_set::StateSet;
@@ -16,7 +17,7 @@ use model::fault::{Fault, Refusal};
 use table::header::fault_at;
 use table::view::Table;
 
-impl<A: QueueAbstraction> Judge<'_, A> {
+impl<A: QueueAbstraction> Judge<'_, '_, A> {
     // The first thing that keeps a set in good form from being closed.
     fn check_closed(&self) -> Result<(), Fault>
         requires { AllSound A.QueueAbstraction self.now.case.now }
@@ -30,7 +31,7 @@ impl<A: QueueAbstraction> Judge<'_, A> {
     }
 }
 
-impl<A: QueueAbstraction> Case<'_, A> {
+impl<A: QueueAbstraction> Case<'_, '_, A> {
     // The first thing wrong with the set.
     fn check_set(&self) -> Result<(), Fault>
         ensures first { FindsFirst A.QueueAbstraction self.now (set_order self.now.set.bytes.now (claim A.QueueAbstraction self.now)) result }
@@ -54,8 +55,9 @@ pub fn check<'a, A: QueueAbstraction>(
     ensures { Checked table.now set.now (claim_of table.now set.now (A.bits abstraction.now) (A.code abstraction.now) (A.removals abstraction.now)) result }
 {
     let view = Table::read(table)?;
+    let table = ReadTable { view };
     let case = Case {
-        table: view,
+        table,
         set: StateSet::over(set),
         abstraction,
     };
@@ -76,8 +78,9 @@ pub fn read_set<'a, A: QueueAbstraction>(
 {
     let view = Table::read(table)?;
     let states = StateSet::over(set);
+    let table = ReadTable { view };
     let case = Case {
-        table: view,
+        table,
         set: states,
         abstraction,
     };

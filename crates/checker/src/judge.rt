@@ -8,11 +8,10 @@ ghost use Rattle.checker.specs.Inner.{Calm};
 use crate::case::{Judge, Judgement};
 use crate::held::Held;
 use crate::hints::Hints;
-use crate::parts::machines;
 use abstraction::QueueAbstraction;
 use model::fault::Fault;
 
-impl<A: QueueAbstraction> Judgement<'_, A> {
+impl<A: QueueAbstraction> Judgement<'_, '_, A> {
     // The first thing found in the record; `last` is the record before.
     fn check_record(&self, hints: &mut Hints, last: &Held) -> Result<(), Fault>
         requires sound { IsSound A.QueueAbstraction self.now }
@@ -25,13 +24,13 @@ impl<A: QueueAbstraction> Judgement<'_, A> {
     }
 }
 
-impl<A: QueueAbstraction> Judge<'_, A> {
+impl<A: QueueAbstraction> Judge<'_, '_, A> {
     // The first thing found in the records.
     pub(crate) fn check_records(&self) -> Result<(), Fault>
         requires { AllSound A.QueueAbstraction self.now.case.now }
         ensures { Judged (claim A.QueueAbstraction self.now.case.now) (judged (claim A.QueueAbstraction self.now.case.now)) result }
     {
-        let n = machines(&self.case.table);
+        let n = self.case.table.machines();
         let mut hints = Hints::none();
         let mut last = Held::uniform(n, 0);
         for k in 0..self.case.set.record_count() {

@@ -12,7 +12,6 @@ ghost use Rattle.checker.specs.Inner.{Keeps};
 
 use crate::case::Judgement;
 use crate::hints::Hints;
-use crate::parts::events;
 use abstraction::QueueAbstraction;
 use model::fault::{Fault, Refusal};
 use model::pattern::Condition;
@@ -24,7 +23,7 @@ fn local_is(named: Option<u8>, local: u8) -> bool
     named.is_none_or(|l| local == l)
 }
 
-impl<A: QueueAbstraction> Judgement<'_, A> {
+impl<A: QueueAbstraction> Judgement<'_, '_, A> {
     // Whether the record lets a condition hold.
     fn lets_hold(&self, condition: Condition) -> bool
         requires sound { IsSound A.QueueAbstraction self.now }
@@ -36,7 +35,7 @@ impl<A: QueueAbstraction> Judgement<'_, A> {
         if !local_is(condition.local, entry.local) {
             return false;
         }
-        let m = events(&case.table);
+        let m = case.table.events();
         let abstraction = case.abstraction;
         abstraction.allows(m, entry.code, condition.front, condition.mask)
     }
@@ -60,7 +59,7 @@ impl<A: QueueAbstraction> Judgement<'_, A> {
         requires below { n < pattern_count (table_at self.now) }
         ensures { MatchOption result (Applies (claim_at A.QueueAbstraction self.now) (met self.now.k n)) (λ _. Applies (claim_at A.QueueAbstraction self.now) (met self.now.k n) → ⊥) }
     {
-        let count = self.judge.case.table.pattern_line_count();
+        let count = self.judge.case.table.view.pattern_line_count();
         if first < count && self.keeps(n, first) {
             return Some(first);
         }
@@ -92,7 +91,7 @@ impl<A: QueueAbstraction> Judgement<'_, A> {
         requires { IsSound A.QueueAbstraction self.now }
         ensures { Finds A.QueueAbstraction self.now (patterns (claim_at A.QueueAbstraction self.now) self.now.k) result }
     {
-        for n in 0..self.judge.case.table.pattern_count() {
+        for n in 0..self.judge.case.table.view.pattern_count() {
             if self.lets_meet(hints, n) {
                 return Err(Fault {
                     number: Refusal::PatternMet,

@@ -7,12 +7,11 @@ ghost use Rattle.table.specs.Lines.{pattern_line_at};
 ghost use Rattle.table.specs.SystemOf.{system_of};
 ghost use Rattle.checker.specs.Plan.{no_link, no_line, cell_of, Chained, Planned};
 
-use crate::parts::{pattern_line, rule, takes};
+use crate::parts::{ReadTable, takes};
 use model::pattern::Condition;
 use model::queue::Front;
 use model::rule::{Action, Rule};
 use table::line::PatternLine;
-use table::view::Table;
 
 const MOST_RULES: usize = 256;
 
@@ -84,13 +83,12 @@ fn taker_cell(machine: u8, local: u8, event: u8) -> usize
 
 impl Chains {
     // Puts rule `r` before those of its cell that follow it.
-    fn link(&mut self, table: &Table<'_>, r: u16)
-        requires below { r < rules_n table.now.bytes.now }
-        requires few { rules_n table.now.bytes.now ≤ 256 }
-        requires chained { Chained table.now.bytes.now (r + 1) self.old }
-        ensures { Chained table.now.bytes.now r self.new }
+    fn link(&mut self, table: &ReadTable<'_>, r: u16)
+        requires below { r < rules_n table.now.view.bytes.now }
+        requires chained { Chained table.now.view.bytes.now (r + 1) self.old }
+        ensures { Chained table.now.view.bytes.now r self.new }
     {
-        let added = rule(table, r);
+        let added = table.rule(r);
         let at = cell(added.machine, added.from);
         self.links[r as usize] = Link {
             rule: added,
@@ -100,15 +98,14 @@ impl Chains {
     }
 
     // The chains of a table's rules.
-    fn of(table: &Table<'_>) -> Chains
-        requires { rules_n table.now.bytes.now ≤ 256 }
-        ensures { Chained table.now.bytes.now 0 result }
+    fn of(table: &ReadTable<'_>) -> Chains
+        ensures { Chained table.now.view.bytes.now 0 result }
     {
         let mut chains = Chains {
             links: [NO_LINK; MOST_RULES],
             heads: [None; CELLS],
         };
-        for r in (0..table.rule_count()).rev() {
+        for r in (0..table.view.rule_count()).rev() {
             chains.link(table, r);
         }
         chains
@@ -117,10 +114,8 @@ impl Chains {
 
 impl Plan {
     // The plan of a table that reads.
-    pub(crate) fn of(table: &Table<'_>) -> Plan
-        requires rules { rules_n table.now.bytes.now ≤ 256 }
-        requires lines { pattern_lines_n table.now.bytes.now ≤ 64 }
-        ensures { Planned table.now.bytes.now result }
+    pub(crate) fn of(table: &ReadTable<'_>) -> Plan
+        ensures { Planned table.now.view.bytes.now result }
     {
         Plan {
             chains: Chains::of(table),
@@ -130,12 +125,12 @@ impl Plan {
     }
 
     // Some rule by which each event is taken, where there is one.
-    fn takers_of(table: &Table<'_>) -> [Option<u16>; TAKER_CELLS]
-        ensures { (x : ℕ) → IfSome (slice_index_or result x None) (λ r. r < rules_n table.now.bytes.now) }
+    fn takers_of(table: &ReadTable<'_>) -> [Option<u16>; TAKER_CELLS]
+        ensures { (x : ℕ) → IfSome (slice_index_or result x None) (λ r. r < rules_n table.now.view.bytes.now) }
     {
         let mut takers = [None; TAKER_CELLS];
-        for r in 0..table.rule_count() {
-            let taker = rule(table, r);
+        for r in 0..table.view.rule_count() {
+            let taker = table.rule(r);
             if let Action::Take { event } = taker.action {
                 takers[taker_cell(taker.machine, taker.from, event)] = Some(r);
             }
@@ -144,13 +139,12 @@ impl Plan {
     }
 
     // The pattern lines.
-    fn lines_of(table: &Table<'_>) -> [PatternLine; MOST_LINES]
-        requires { pattern_lines_n table.now.bytes.now ≤ 64 }
-        ensures { (l : ℕ) → l < pattern_lines_n table.now.bytes.now → slice_index_or result l no_line ≡ pattern_line_at table.now.bytes.now (pattern_offset table.now.bytes.now l) }
+    fn lines_of(table: &ReadTable<'_>) -> [PatternLine; MOST_LINES]
+        ensures { (l : ℕ) → l < pattern_lines_n table.now.view.bytes.now → slice_index_or result l no_line ≡ pattern_line_at table.now.view.bytes.now (pattern_offset table.now.view.bytes.now l) }
     {
         let mut lines = [NO_LINE; MOST_LINES];
-        for l in 0..table.pattern_line_count() {
-            lines[l as usize] = pattern_line(table, l);
+        for l in 0..table.view.pattern_line_count() {
+            lines[l as usize] = table.pattern_line(l);
         }
         lines
     }
@@ -187,10 +181,9 @@ impl Plan {
     }
 
     // Whether the rule that is kept for it lets a machine in a local state take an event.
-    pub(crate) fn has_taker(&self, table: &Table<'_>, machine: u8, local: u8, event: u8) -> bool
-        requires few { rules_n table.now.bytes.now ≤ 256 }
-        requires planned { Planned table.now.bytes.now self.now }
-        ensures { result ≡ true → NoTake (system_of table.now.bytes.now) machine local event → ⊥ }
+    pub(crate) fn has_taker(&self, table: &ReadTable<'_>, machine: u8, local: u8, event: u8) -> bool
+        requires { Planned table.now.view.bytes.now self.now }
+        ensures { result ≡ true → NoTake (system_of table.now.view.bytes.now) machine local event → ⊥ }
     {
         match self.takers[taker_cell(machine, local, event)] {
             Some(r) => takes(self.rule(r), machine, local, event),

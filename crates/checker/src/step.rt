@@ -17,7 +17,6 @@ ghost use Rattle.checker.specs.SetFile.{records_of};
 use crate::case::Judgement;
 use crate::held::{Entry, Held};
 use crate::hints::Hints;
-use crate::parts::events;
 use abstraction::QueueAbstraction;
 use abstraction::removals::each_removal;
 use model::fault::{Fault, Refusal};
@@ -30,7 +29,7 @@ struct Numbered {
     rule: Rule,
 }
 
-impl<A: QueueAbstraction> Judgement<'_, A> {
+impl<A: QueueAbstraction> Judgement<'_, '_, A> {
     // Whether the record that outcome `c` of rule `r` leads to stands in the set.
     fn inside(&self, hints: &mut Hints, r: u16, c: u64, target: &Held) -> Result<(), Fault>
         requires { target.now.machines ≡ machines_n (table_at self.now) }
@@ -107,7 +106,7 @@ impl<A: QueueAbstraction> Judgement<'_, A> {
         ensures { Finds A.QueueAbstraction self.now (each (length (A.removals self.now.judge.now.case.now.abstraction.now (events_n (table_at self.now)) (code_in (record_of (claim_at A.QueueAbstraction self.now) self.now.k) taker.rule.machine))) (λ c. one (outside self.now.k taker.r c))) result }
     {
         let case = self.judge.case;
-        let m = events(&case.table);
+        let m = case.table.events();
         let own = self.held.entry(taker.rule.machine);
         for (c, removal) in each_removal(case.abstraction, m, own.code).enumerate() {
             self.take_inside(hints, taker, event, c as u64, removal)?;
@@ -135,7 +134,7 @@ impl<A: QueueAbstraction> Judgement<'_, A> {
         let there = self.held.entry(target);
         let Some(longer) = case
             .abstraction
-            .append(events(&case.table), there.code, event)
+            .append(case.table.events(), there.code, event)
         else {
             return Ok(());
         };
@@ -208,7 +207,7 @@ impl<A: QueueAbstraction> Judgement<'_, A> {
         if self.all_inside(hints) {
             return Ok(());
         }
-        for r in 0..self.judge.case.table.rule_count() {
+        for r in 0..self.judge.case.table.view.rule_count() {
             self.check_rule(hints, r)?;
         }
         Ok(())

@@ -8,12 +8,11 @@ ghost use Rattle.checker.specs.Inner.{Calm};
 
 use crate::case::Judgement;
 use crate::held::Held;
-use crate::parts::{events, no_take};
 use abstraction::QueueAbstraction;
 use model::fault::{Fault, Refusal};
 use model::queue::Front;
 
-impl<A: QueueAbstraction> Judgement<'_, A> {
+impl<A: QueueAbstraction> Judgement<'_, '_, A> {
     // Whether the record lets machine `i` be surprised by event `e`.
     fn lets_surprise(&self, i: u8, e: u8) -> bool
         requires sound { IsSound A.QueueAbstraction self.now }
@@ -27,11 +26,11 @@ impl<A: QueueAbstraction> Judgement<'_, A> {
         }
         if !case
             .abstraction
-            .allows(events(&case.table), entry.code, Front::Event(e), 0)
+            .allows(case.table.events(), entry.code, Front::Event(e), 0)
         {
             return false;
         }
-        no_take(&case.table, i, entry.local, e)
+        case.table.no_take(i, entry.local, e)
     }
 
     // The first event that machine `i` can be surprised by.
@@ -40,7 +39,7 @@ impl<A: QueueAbstraction> Judgement<'_, A> {
         requires below { i < machines_n (table_at self.now) }
         ensures { Finds A.QueueAbstraction self.now (each (events_n (table_at self.now)) (λ e. one (surprise self.now.k i e))) result }
     {
-        for e in 0..events(&self.judge.case.table) {
+        for e in 0..self.judge.case.table.events() {
             if self.lets_surprise(i, e) {
                 return Err(Fault {
                     number: Refusal::Surprise,

@@ -10,7 +10,7 @@ use Rattle.checker.proofs.case.Case.check_form.Goals as goal
 
 pub returns-in_err-check_header : goal.returns-in_err-check_header
 returns-in_err-check_header g c =
-    let bs = c.args.self.now.table.bytes.now in
+    let bs = c.args.self.now.table.view.bytes.now in
     let s = c.args.self.now.set.bytes.now in
     let T = claim g.A.QueueAbstraction c.args.self.now in
     let e = err_from_is_err_and c.from_residual.result c.from_residual.ensures.1 in
@@ -19,14 +19,14 @@ returns-in_err-check_header g c =
 
 pub form_records-requires : goal.form_records-requires
 form_records-requires g c =
-    let bs = c.args.self.now.table.bytes.now in
+    let bs = c.args.self.now.table.view.bytes.now in
     let s = c.args.self.now.set.bytes.now in
     let h = c.in_ok-check_header.ensures in
     record { head = head bs s h; long = as_long bs s h }
 
 pub returns : goal.returns
 returns g c =
-    let bs = c.args.self.now.table.bytes.now in
+    let bs = c.args.self.now.table.view.bytes.now in
     let s = c.args.self.now.set.bytes.now in
     let T = claim g.A.QueueAbstraction c.args.self.now in
     let h = c.in_ok-check_header.ensures in

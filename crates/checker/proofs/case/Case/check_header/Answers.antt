@@ -10,7 +10,7 @@ use Rattle.checker.proofs.case.Case.check_header.Goals as goal
 
 pub returns-in_err-check_header_fields : goal.returns-in_err-check_header_fields
 returns-in_err-check_header_fields g c =
-    let A = HeaderApplies c.args.self.now.table.bytes.now c.args.self.now.set.bytes.now in
+    let A = HeaderApplies c.args.self.now.table.view.bytes.now c.args.self.now.set.bytes.now in
     let long : length c.args.self.now.set.bytes.now < 16 → ⊥ = (λ l. omega (arith, ap length c.bytes-bytes.ensures)) in
     let e = err_from_is_err_and c.from_residual.result c.from_residual.ensures.1 in
     rw (e.1, e.2) (answered_after A header_numbers (one short) (under field fields then one wrong_length) (Err _) long
@@ -18,7 +18,7 @@ returns-in_err-check_header_fields g c =
 
 pub returns-then-bytes-record_length : goal.returns-then-bytes-record_length
 returns-then-bytes-record_length g c =
-    let table = c.args.self.now.table.bytes.now in
+    let table = c.args.self.now.table.view.bytes.now in
     let set = c.args.self.now.set.bytes.now in
     let long : length set < 16 → ⊥ = (λ l. omega (arith, ap length c.bytes-bytes.ensures)) in
     let same : 16 + 9 * c.machines.result * c.record_count.result ≡ 16 + 9 * machines_n table * records_n set = ap (λ (n : ℕ). 16 + 9 * n * c.record_count.result) c.machines.ensures ∙ ap (λ (k : ℕ). 16 + 9 * machines_n table * k) c.record_count.ensures in
@@ -27,7 +27,7 @@ returns-then-bytes-record_length g c =
 
 pub returns : goal.returns
 returns g c =
-    let table = c.args.self.now.table.bytes.now in
+    let table = c.args.self.now.table.view.bytes.now in
     let set = c.args.self.now.set.bytes.now in
     let long : length set < 16 → ⊥ = (λ l. omega (arith, ap length c.bytes-bytes.ensures)) in
     let same : 16 + 9 * c.machines.result * c.record_count.result ≡ 16 + 9 * machines_n table * records_n set = ap (λ (n : ℕ). 16 + 9 * n * c.record_count.result) c.machines.ensures ∙ ap (λ (k : ℕ). 16 + 9 * machines_n table * k) c.record_count.ensures in

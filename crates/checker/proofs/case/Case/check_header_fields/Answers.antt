@@ -8,7 +8,7 @@ use Rattle.checker.proofs.case.Case.check_header_fields.Goals as goal
 
 pub returns : goal.returns
 returns g c =
-    let table = c.args.self.now.table.bytes.now in
+    let table = c.args.self.now.table.view.bytes.now in
     let set = c.args.self.now.set.bytes.now in
     let r = c.check_fields.result in
     let read = subst (λ (b : List ℕ). Answered (OutOfBounds b c.header_bounds.result) (λ i. fault_at SetHeader (2 * i)) fields r) c.bytes.ensures c.check_fields.ensures in

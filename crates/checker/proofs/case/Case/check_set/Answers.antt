@@ -6,7 +6,7 @@ use Rattle.checker.proofs.case.Case.check_set.Goals as goal
 
 pub returns-in_err-check_form : goal.returns-in_err-check_form
 returns-in_err-check_form g c =
-    let bs = c.args.self.now.table.bytes.now in
+    let bs = c.args.self.now.table.view.bytes.now in
     let s = c.args.self.now.set.bytes.now in
     let T = claim g.A.QueueAbstraction c.args.self.now in
     let e = err_from_is_err_and c.from_residual.result c.from_residual.ensures.1 in
@@ -19,7 +19,7 @@ check_closed-requires g c =
 
 pub returns : goal.returns
 returns g c =
-    let bs = c.args.self.now.table.bytes.now in
+    let bs = c.args.self.now.table.view.bytes.now in
     let s = c.args.self.now.set.bytes.now in
     let T = claim g.A.QueueAbstraction c.args.self.now in
     record { first = answered_after (Applies bs s T) (numbers bs) (form_order s) (closed_order T) c.check_closed.result c.in_ok-check_form.ensures.form c.check_closed.ensures.first; closed = c.check_closed.ensures.closed }

@@ -12,14 +12,14 @@ use Rattle.checker.proofs.case.Case.form_record.Goals as goal
 pub record-held-requires : goal.record-held-requires
 record-held-requires g c =
     let bs = c.args.self.now.set.bytes.now in
-    let n = machines_n c.args.self.now.table.bytes.now in
+    let n = machines_n c.args.self.now.table.view.bytes.now in
     let in-set : 16 + 9 * n * c.args.k + 9 * n ≤ length bs = omega (arith, room (9 * n) c.args.k (word_at bs 10) c.requires.below, c.requires.long) in
-    record { few = omega (arith, c.machines.ensures, c.args.self.now.ready.few); long = subst (λ (z : ℕ). 16 + 9 * z * c.args.k + 9 * z ≤ length bs) (sym c.machines.ensures) in-set }
+    record { few = omega (arith, c.machines.ensures, c.args.self.now.table.ready.few); long = subst (λ (z : ℕ). 16 + 9 * z * c.args.k + 9 * z ≤ length bs) (sym c.machines.ensures) in-set }
 
 pub is_sound-requires : goal.is_sound-requires
 is_sound-requires g c =
     let bs = c.args.self.now.set.bytes.now in
-    let n = machines_n c.args.self.now.table.bytes.now in
+    let n = machines_n c.args.self.now.table.view.bytes.now in
     let e : record_in c.record-held.result ≡ record_at n bs c.args.k = c.record-held.ensures.is ∙ ap (λ (z : ℕ). record_at z bs c.args.k) c.machines.ensures in
     record {
       is = e ∙ sym (record_at_lem n bs c.args.k c.requires.below);
@@ -33,7 +33,7 @@ returns-then-not-is_sound g c = record { finding = record_parts c.args.k; number
 pub stands_above-requires : goal.stands_above-requires
 stands_above-requires g c =
     let bs = c.args.self.now.set.bytes.now in
-    let n = machines_n c.args.self.now.table.bytes.now in
+    let n = machines_n c.args.self.now.table.view.bytes.now in
     let m : c.record-held.result.machines ≡ n = c.record-held.ensures.machines ∙ c.machines.ensures in
     let k = c.args.k in
     let in-set : 16 + 9 * n * (k - 1) + 9 * n ≤ length bs = omega (arith, room (9 * n) (k - 1) (word_at bs 10) (omega (arith, c.requires.below)), c.requires.long) in
@@ -46,7 +46,7 @@ stands_above-requires g c =
 pub returns-then-not-stands_above : goal.returns-then-not-stands_above
 returns-then-not-stands_above g c =
     let bs = c.args.self.now.set.bytes.now in
-    let n = machines_n c.args.self.now.table.bytes.now in
+    let n = machines_n c.args.self.now.table.view.bytes.now in
     let m : c.record-held.result.machines ≡ n = c.record-held.ensures.machines ∙ c.machines.ensures in
     let k = c.args.k in
     record {
@@ -62,7 +62,7 @@ returns-then-not-stands_above g c =
 pub returns : goal.returns
 returns g c =
     let bs = c.args.self.now.set.bytes.now in
-    let n = machines_n c.args.self.now.table.bytes.now in
+    let n = machines_n c.args.self.now.table.view.bytes.now in
     let m : c.record-held.result.machines ≡ n = c.record-held.ensures.machines ∙ c.machines.ensures in
     let k = c.args.k in
     (c.is_sound.ensures.0 c.if-not-is_sound.false, (λ l. subst (λ (z : ℕ). Before (9 * z) (record_byte z bs (k - 1)) (record_byte z bs k)) m (c.stands_above.ensures.0 c.if-not-stands_above.false)))

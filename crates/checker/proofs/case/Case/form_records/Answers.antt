@@ -15,7 +15,7 @@ loop-k-preserved g c = below_more _ c.loop-k.k c.loop-k.invariant c.in_ok-form_r
 
 pub returns : goal.returns
 returns g c =
-    let n = machines_n c.args.self.now.table.bytes.now in
+    let n = machines_n c.args.self.now.table.view.bytes.now in
     let bs = c.args.self.now.set.bytes.now in
     record {
       sound = λ k l. (c.loop-k.invariant k (omega (arith, c.record_count-k-end.ensures))).0;

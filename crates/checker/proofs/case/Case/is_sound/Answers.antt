@@ -14,7 +14,7 @@ pub returns-then-not-entry_sound : goal.returns-then-not-entry_sound
 returns-then-not-entry_sound g c =
     let q = g.A.QueueAbstraction in
     let p = c.args.self.now.abstraction.now in
-    let bs = c.args.self.now.table.bytes.now in
+    let bs = c.args.self.now.table.view.bytes.now in
     let i = c.loop-i.i in
     let e = c.entry.ensures ∙ ap (λ (z : Record). get_or z i (0, 0)) c.requires.is in
     let lt : i < machines (system_of bs) = omega (arith, machines_long bs, c.requires.machines) in
@@ -27,7 +27,7 @@ pub returns : goal.returns
 returns g c =
     let q = g.A.QueueAbstraction in
     let p = c.args.self.now.abstraction.now in
-    let bs = c.args.self.now.table.bytes.now in
+    let bs = c.args.self.now.table.view.bytes.now in
     let h = record_in c.args.held.now in
     let at : (i : ℕ) → i < machines (system_of bs) → (local_in h i < states_of (system_of bs) i) × Good (q.bits p) (q.code p) (events_n bs) (code_in h i) = (λ i l. c.loop-i.invariant i (omega (arith, machines_long bs, c.requires.machines))) in
     decides_true (record {

@@ -12,7 +12,7 @@ use Rattle.checker.proofs.case.Judge.check_closed.Goals as goal
 
 pub returns-then-not-has_start : goal.returns-then-not-has_start
 returns-then-not-has_start g c =
-    let bs = c.args.self.now.case.now.table.bytes.now in
+    let bs = c.args.self.now.case.now.table.view.bytes.now in
     let s = c.args.self.now.case.now.set.bytes.now in
     let T = claim g.A.QueueAbstraction c.args.self.now.case.now in
     record { first = found (Applies bs s T) (numbers bs) (closed_order T) _ start_absent c.fault_at.ensures (inl (refl, not_from_Decides _ c.has_start.ensures c.if-not-has_start.true)); closed = tt }
@@ -20,12 +20,12 @@ returns-then-not-has_start g c =
 pub returns : goal.returns
 returns g c =
     let p = c.args.self.now.case.now.abstraction.now in
-    let bs = c.args.self.now.case.now.table.bytes.now in
+    let bs = c.args.self.now.case.now.table.view.bytes.now in
     let s = c.args.self.now.case.now.set.bytes.now in
     let T = claim g.A.QueueAbstraction c.args.self.now.case.now in
     let b = c.has_start.ensures.0 c.if-not-has_start.false in
     let r = c.check_records.result in
     record {
       first = answered_after (Applies bs s T) (numbers bs) (one start_absent) (under in_record (judged T)) r (λ none. none b) (answered_under (Applies bs s T) (numbers bs) in_record (judged T) r c.check_records.ensures);
-      closed = closed_if T (g.met.A.QueueAbstraction.meaning p) c.args.self.now.case.now.ready.proper (λ k l. c.requires k (omega (arith, records_long (machines_n bs) s))) b r c.check_records.ensures;
+      closed = closed_if T (g.met.A.QueueAbstraction.meaning p) c.args.self.now.case.now.table.ready.proper (λ k l. c.requires k (omega (arith, records_long (machines_n bs) s))) b r c.check_records.ensures;
     }

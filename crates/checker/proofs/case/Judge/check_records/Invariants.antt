@@ -7,4 +7,4 @@ use Rattle.checker.specs.Case.{claim}
 use Rattle.checker.proofs.case.Judge.check_records.Given as goal
 
 abbrev pub invariant-loop-k : goal.invariant-loop-k
-invariant-loop-k g l = let T = claim g.A.QueueAbstraction l.self.case.now in ((j : ℕ) → j < l.k → Nothing (Applies T) (of_record T j)) × (0 < l.k → Calm T (machines_n l.self.case.now.table.bytes.now) l.last)
+invariant-loop-k g l = let T = claim g.A.QueueAbstraction l.self.case.now in ((j : ℕ) → j < l.k → Nothing (Applies T) (of_record T j)) × (0 < l.k → Calm T (machines_n l.self.case.now.table.view.bytes.now) l.last)

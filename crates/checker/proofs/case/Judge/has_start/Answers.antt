@@ -21,7 +21,7 @@ pub returns : goal.returns
 returns g c =
     let q = g.A.QueueAbstraction in
     let p = c.args.self.now.case.now.abstraction.now in
-    let bs = c.args.self.now.case.now.table.bytes.now in
+    let bs = c.args.self.now.case.now.table.view.bytes.now in
     let T = claim g.A.QueueAbstraction c.args.self.now.case.now in
     let law = g.met.A.QueueAbstraction.meaning p in
     let e : record_in c.uniform-held.result ≡ codes T (start (system_of bs)) =

@@ -13,4 +13,4 @@ pub returns : goal.returns
 returns g c e r h =
     let bs = table_at c.args.self.now in
     let lt : r < rules_n bs = omega (arith, rules_long bs, h) in
-    c.loop-i.invariant (rule_of (system_of bs) r).machine (omega (arith, (c.args.self.now.judge.now.case.now.ready.proper.rules r h).machine, machines_long bs, c.requires.machines)) r lt refl
+    c.loop-i.invariant (rule_of (system_of bs) r).machine (omega (arith, (c.args.self.now.judge.now.case.now.table.ready.proper.rules r h).machine, machines_long bs, c.requires.machines)) r lt refl

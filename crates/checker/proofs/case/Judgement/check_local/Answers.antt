@@ -16,6 +16,6 @@ returns g c =
     let law = g.met.A.QueueAbstraction.meaning p in
     let x = c.args.mover.rule in
     let own : c.entry-own.result.code ≡ code_in (record_of T c.args.self.now.k) x.machine = ap (λ (z : ℕ × ℕ). z.1) (entry_is T law _ c.args.self.now.k c.args.self.now.held c.requires.sound x.machine _ _ c.entry-own.ensures) in
-    judged_inside T law _ c.args.self.now.k c.args.self.now.held c.requires.sound c.args.self.now.judge.now.case.now.ready.proper c.args.mover.r x Local c.requires.enabled 0 _ (record_in c.moved.result) (records_of (machines_n (table_at c.args.self.now)) (set_at c.args.self.now)) c.inside.result
+    judged_inside T law _ c.args.self.now.k c.args.self.now.held c.requires.sound c.args.self.now.judge.now.case.now.table.ready.proper c.args.mover.r x Local c.requires.enabled 0 _ (record_in c.moved.result) (records_of (machines_n (table_at c.args.self.now)) (set_at c.args.self.now)) c.inside.result
     (refl, ap (λ (z : ℕ). moved_in x z (record_of T c.args.self.now.k)) own)
     refl c.moved.ensures.is c.inside.ensures

@@ -14,7 +14,7 @@ entry-own-requires g c =
     let x = c.rule-rule.result in
     let is = c.rule-rule.ensures ∙ c.args.self.now.judge.now.planned.chained.rules c.args.r (omega arith) c.requires.below in
     let lt : c.args.r < length (system_of bs).rules = omega (arith, rules_long bs, c.requires.below) in
-    let f = rule_fits (system_of bs) c.args.self.now.judge.now.case.now.ready.proper c.args.r lt x is in
+    let f = rule_fits (system_of bs) c.args.self.now.judge.now.case.now.table.ready.proper c.args.r lt x is in
     omega (arith, f.machine, machines_long bs, c.requires.sound.machines)
 
 pub returns-then-own-rule : goal.returns-then-own-rule
@@ -27,7 +27,7 @@ returns-then-own-rule g c =
     let is = c.rule-rule.ensures ∙ c.args.self.now.judge.now.planned.chained.rules c.args.r (omega arith) c.requires.below in
     let lt : c.args.r < length (system_of bs).rules = omega (arith, rules_long bs, c.requires.below) in
     let own : c.entry-own.result.local ≡ local_in (record_of T c.args.self.now.k) x.machine = ap (λ (z : ℕ × ℕ). z.0) (entry_is T law _ c.args.self.now.k c.args.self.now.held c.requires.sound x.machine _ _ c.entry-own.ensures) in
-    λ o l a. not_from T law _ c.args.self.now.k c.args.self.now.held c.requires.sound c.args.self.now.judge.now.case.now.ready.proper c.args.r lt x is (λ e. c.if-own-rule.true (own ∙ e)) o a
+    λ o l a. not_from T law _ c.args.self.now.k c.args.self.now.held c.requires.sound c.args.self.now.judge.now.case.now.table.ready.proper c.args.r lt x is (λ e. c.if-own-rule.true (own ∙ e)) o a
 
 pub check_local-requires : goal.check_local-requires
 check_local-requires g c =
@@ -38,7 +38,7 @@ check_local-requires g c =
     let x = c.rule-rule.result in
     let is = c.rule-rule.ensures ∙ c.args.self.now.judge.now.planned.chained.rules c.args.r (omega arith) c.requires.below in
     let lt : c.args.r < length (system_of bs).rules = omega (arith, rules_long bs, c.requires.below) in
-    let f = rule_fits (system_of bs) c.args.self.now.judge.now.case.now.ready.proper c.args.r lt x is in
+    let f = rule_fits (system_of bs) c.args.self.now.judge.now.case.now.table.ready.proper c.args.r lt x is in
     record {
       sound = c.requires.sound;
       enabled = enabled_at T law _ c.args.self.now.k c.args.self.now.held c.requires.sound c.args.r x Local _ _ lt is c.entry-own.ensures c.if-own-rule.false c.in-Local.is;
@@ -54,7 +54,7 @@ check_take-requires g c =
     let x = c.rule-rule.result in
     let is = c.rule-rule.ensures ∙ c.args.self.now.judge.now.planned.chained.rules c.args.r (omega arith) c.requires.below in
     let lt : c.args.r < length (system_of bs).rules = omega (arith, rules_long bs, c.requires.below) in
-    let f = rule_fits (system_of bs) c.args.self.now.judge.now.case.now.ready.proper c.args.r lt x is in
+    let f = rule_fits (system_of bs) c.args.self.now.judge.now.case.now.table.ready.proper c.args.r lt x is in
     record {
       sound = c.requires.sound;
       enabled = enabled_at T law _ c.args.self.now.k c.args.self.now.held c.requires.sound c.args.r x (Take c.in-Take.event) _ _ lt is c.entry-own.ensures c.if-own-rule.false c.in-Take.is;
@@ -70,7 +70,7 @@ check_send-requires g c =
     let x = c.rule-rule.result in
     let is = c.rule-rule.ensures ∙ c.args.self.now.judge.now.planned.chained.rules c.args.r (omega arith) c.requires.below in
     let lt : c.args.r < length (system_of bs).rules = omega (arith, rules_long bs, c.requires.below) in
-    let f = rule_fits (system_of bs) c.args.self.now.judge.now.case.now.ready.proper c.args.r lt x is in
+    let f = rule_fits (system_of bs) c.args.self.now.judge.now.case.now.table.ready.proper c.args.r lt x is in
     let s = subst (ActionFits (system_of bs)) c.in-Send.is f.action in
     record {
       sound = c.requires.sound;

@@ -46,7 +46,7 @@ returns g c =
     let own : c.entry-own.result.code ≡ code_in r x.machine = ap (λ (z : ℕ × ℕ). z.1) (entry_is T law _ c.args.self.now.k c.args.self.now.held c.requires.sound x.machine _ _ c.entry-own.ensures) in
     let d = c.in-Some.longer in
     let next = record_in c.moved-next.result in
-    judged_inside T law _ c.args.self.now.k c.args.self.now.held c.requires.sound c.args.self.now.judge.now.case.now.ready.proper c.args.sender.r x (Send c.args.event t) c.requires.enabled 0 (sent_in t d (moved_in x (code_in r x.machine) r)) (record_in c.with-sent.result) (records_of (machines_n (table_at c.args.self.now)) (set_at c.args.self.now)) c.inside.result
+    judged_inside T law _ c.args.self.now.k c.args.self.now.held c.requires.sound c.args.self.now.judge.now.case.now.table.ready.proper c.args.sender.r x (Send c.args.event t) c.requires.enabled 0 (sent_in t d (moved_in x (code_in r x.machine) r)) (record_in c.with-sent.result) (records_of (machines_n (table_at c.args.self.now)) (set_at c.args.self.now)) c.inside.result
     (d, refl, appends_as (q.code p) _ _ _ _ c.args.event d c.events.ensures there c.in-Some.ensures.2, refl)
     refl
     (c.with-sent.ensures.is ∙ ap (λ (z : ℕ × ℕ). set next t (z.0, d)) c.entry-local.ensures ∙ ap (sent_in t d) (c.moved-next.ensures.is ∙ ap (λ (z : ℕ). moved_in x z r) own))

@@ -22,7 +22,7 @@ returns-then-keeps g c =
     let lt : c.args.n < length (system_of bs).patterns = omega (arith, patterns_long bs, c.requires.below) in
     let kept = when_true _ _ c.if-keeps.true c.keeps.ensures in
     λ a.
-    let all = subst (λ (z : List Condition). MayMeet T (record_of T c.args.self.now.k) z) (pattern_at bs c.args.n c.requires.below) (pattern_from T (g.met.A.QueueAbstraction.meaning p) _ c.args.self.now.k c.args.self.now.held c.requires.sound c.args.self.now.judge.now.case.now.ready.proper c.args.n lt a) in
+    let all = subst (λ (z : List Condition). MayMeet T (record_of T c.args.self.now.k) z) (pattern_at bs c.args.n c.requires.below) (pattern_from T (g.met.A.QueueAbstraction.meaning p) _ c.args.self.now.k c.args.self.now.held c.requires.sound c.args.self.now.judge.now.case.now.table.ready.proper c.args.n lt a) in
     kept.1 (kept_all (MayHold T (record_of T c.args.self.now.k)) (λ l. condition_at bs (pattern_offset bs l)) (λ l. eqb (number_of bs l) c.args.n) 0 (pattern_lines_n bs) all c.args.first (omega arith) (omega (arith, lines_long bs, c.pattern_line_count-count.ensures)) (eq-eqb _ _ kept.0))
 
 pub returns-then-keeps-2 : goal.returns-then-keeps-2
@@ -33,7 +33,7 @@ returns-then-keeps-2 g c =
     let lt : c.args.n < length (system_of bs).patterns = omega (arith, patterns_long bs, c.requires.below) in
     let kept = when_true _ _ c.if-keeps-2.true c.keeps-in-loop-l.ensures in
     λ a.
-    let all = subst (λ (z : List Condition). MayMeet T (record_of T c.args.self.now.k) z) (pattern_at bs c.args.n c.requires.below) (pattern_from T (g.met.A.QueueAbstraction.meaning p) _ c.args.self.now.k c.args.self.now.held c.requires.sound c.args.self.now.judge.now.case.now.ready.proper c.args.n lt a) in
+    let all = subst (λ (z : List Condition). MayMeet T (record_of T c.args.self.now.k) z) (pattern_at bs c.args.n c.requires.below) (pattern_from T (g.met.A.QueueAbstraction.meaning p) _ c.args.self.now.k c.args.self.now.held c.requires.sound c.args.self.now.judge.now.case.now.table.ready.proper c.args.n lt a) in
     kept.1 (kept_all (MayHold T (record_of T c.args.self.now.k)) (λ l. condition_at bs (pattern_offset bs l)) (λ l. eqb (number_of bs l) c.args.n) 0 (pattern_lines_n bs) all c.loop-l.l (omega arith) (omega (arith, lines_long bs, c.pattern_line_count-count.ensures)) (eq-eqb _ _ kept.0))
 
 pub loop-l-preserved : goal.loop-l-preserved
@@ -49,7 +49,7 @@ returns g c =
     let bs = table_at c.args.self.now in
     let T = claim_at g.A.QueueAbstraction c.args.self.now in
     let lt : c.args.n < length (system_of bs).patterns = omega (arith, patterns_long bs, c.requires.below) in
-    pattern_if T (g.met.A.QueueAbstraction.meaning p) _ c.args.self.now.k c.args.self.now.held c.requires.sound c.args.self.now.judge.now.case.now.ready.proper c.args.n lt
+    pattern_if T (g.met.A.QueueAbstraction.meaning p) _ c.args.self.now.k c.args.self.now.held c.requires.sound c.args.self.now.judge.now.case.now.table.ready.proper c.args.n lt
     (subst (λ (z : List Condition). MayMeet T (record_of T c.args.self.now.k) z) (sym (pattern_at bs c.args.n c.requires.below))
     (all_kept (MayHold T (record_of T c.args.self.now.k)) (λ l. condition_at bs (pattern_offset bs l)) (λ l. eqb (number_of bs l) c.args.n) 0 (pattern_lines_n bs)
     (λ j l u e. c.loop-l.invariant j (omega (arith, lines_long bs, c.pattern_line_count-count.ensures)) (eqb-true _ _ e))))

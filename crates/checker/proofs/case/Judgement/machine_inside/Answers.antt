@@ -37,5 +37,5 @@ returns g c e r h m =
     let P : ℕ → Type 0 = λ j. Nothing (Applies T) (outcomes_of T c.args.self.now.k j) in
     elim (cases_eq x.from own) [
       | inl s ↦ subst (Walked P bs (cell_of c.args.i own)) c.in_default.is c.loop-next.invariant r h (ap (λ (z : ℕ). cell_of z x.from) m ∙ ap (cell_of c.args.i) s)
-      | inr ne ↦ (λ o l a. not_from T law _ c.args.self.now.k c.args.self.now.held c.requires.sound c.args.self.now.judge.now.case.now.ready.proper r lt x refl (λ f. ne (sym f ∙ ap (local_in (record_of T c.args.self.now.k)) m ∙ sym is)) o a)
+      | inr ne ↦ (λ o l a. not_from T law _ c.args.self.now.k c.args.self.now.held c.requires.sound c.args.self.now.judge.now.case.now.table.ready.proper r lt x refl (λ f. ne (sym f ∙ ap (local_in (record_of T c.args.self.now.k)) m ∙ sym is)) o a)
     ]

@@ -13,7 +13,7 @@ returns-then-taken-event g c =
     let T = claim_at g.A.QueueAbstraction c.args.self.now in
     let law = g.met.A.QueueAbstraction.meaning p in
     let on = c.requires.enabled in
-    take_other T law _ c.args.self.now.k c.args.self.now.held c.requires.sound c.args.self.now.judge.now.case.now.ready.proper c.args.taker.r on.below c.args.taker.rule on.is on.from c.args.event c.args.removal.0 c.args.c c.args.removal.1 on.action c.requires.removal c.if-taken-event.true
+    take_other T law _ c.args.self.now.k c.args.self.now.held c.requires.sound c.args.self.now.judge.now.case.now.table.ready.proper c.args.taker.r on.below c.args.taker.rule on.is on.from c.args.event c.args.removal.0 c.args.c c.args.removal.1 on.action c.requires.removal c.if-taken-event.true
 
 pub returns : goal.returns
 returns g c =
@@ -21,6 +21,6 @@ returns g c =
     let T = claim_at g.A.QueueAbstraction c.args.self.now in
     let law = g.met.A.QueueAbstraction.meaning p in
     let x = c.args.taker.rule in
-    judged_inside T law _ c.args.self.now.k c.args.self.now.held c.requires.sound c.args.self.now.judge.now.case.now.ready.proper c.args.taker.r x (Take c.args.event) c.requires.enabled c.args.c _ (record_in c.moved.result) (records_of (machines_n (table_at c.args.self.now)) (set_at c.args.self.now)) c.inside.result
+    judged_inside T law _ c.args.self.now.k c.args.self.now.held c.requires.sound c.args.self.now.judge.now.case.now.table.ready.proper c.args.taker.r x (Take c.args.event) c.requires.enabled c.args.c _ (record_in c.moved.result) (records_of (machines_n (table_at c.args.self.now)) (set_at c.args.self.now)) c.inside.result
     (c.args.removal.1, c.requires.removal ∙ ap {B = Option (ℕ × ℕ)} (λ (z : ℕ). Some (z, c.args.removal.1)) c.if-taken-event.false, refl)
     refl c.moved.ensures.is c.inside.ensures

@@ -7,7 +7,7 @@ use Rattle.checker.proofs.plan.Chains.of.Goals as goal
 
 pub loop-r-init : goal.loop-r-init
 loop-r-init c =
-    let bs = c.args.table.now.bytes.now in
+    let bs = c.args.table.now.view.bytes.now in
     let n = c.rule_count-r.result in
     let is : n ≡ rules_n bs = c.rule_count-r.ensures ∙ rules_long bs in (
       omega (arith, is),

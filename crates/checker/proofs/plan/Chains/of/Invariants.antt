@@ -4,4 +4,4 @@ use Rattle.checker.specs.Plan.{Chained}
 use Rattle.checker.proofs.plan.Chains.of.Given as goal
 
 abbrev pub invariant-loop-r : goal.invariant-loop-r
-invariant-loop-r l = (l.r ≤ rules_n l.table.bytes.now) × Chained l.table.bytes.now l.r l.chains
+invariant-loop-r l = (l.r ≤ rules_n l.table.view.bytes.now) × Chained l.table.view.bytes.now l.r l.chains

@@ -6,14 +6,14 @@ use Rattle.checker.specs.Plan.{no_line}
 use Rattle.checker.proofs.plan.Plan.lines_of.Goals as goal
 
 pub pattern_line-requires : goal.pattern_line-requires
-pattern_line-requires c = omega (arith, lines_long c.args.table.now.bytes.now, c.pattern_line_count-l-end.ensures)
+pattern_line-requires c = omega (arith, lines_long c.args.table.now.view.bytes.now, c.pattern_line_count-l-end.ensures)
 
 pub bounds-lines-l : goal.bounds-lines-l
-bounds-lines-l c = omega (arith, lines_long c.args.table.now.bytes.now, c.pattern_line_count-l-end.ensures, c.loop-l.invariant.0, c.requires)
+bounds-lines-l c = omega (arith, lines_long c.args.table.now.view.bytes.now, c.pattern_line_count-l-end.ensures, c.loop-l.invariant.0, c.requires)
 
 pub loop-l-preserved : goal.loop-l-preserved
 loop-l-preserved c =
-    let bs = c.args.table.now.bytes.now in
+    let bs = c.args.table.now.view.bytes.now in
     let ls = c.loop-l.lines in
     let l = c.loop-l.l in
     let x = c.pattern_line.result in
@@ -25,4 +25,4 @@ loop-l-preserved c =
     )
 
 pub returns : goal.returns
-returns c = λ l h. c.loop-l.invariant.1 l (omega (arith, lines_long c.args.table.now.bytes.now, c.pattern_line_count-l-end.ensures))
+returns c = λ l h. c.loop-l.invariant.1 l (omega (arith, lines_long c.args.table.now.view.bytes.now, c.pattern_line_count-l-end.ensures))

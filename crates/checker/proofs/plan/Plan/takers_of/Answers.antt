@@ -21,16 +21,16 @@ below_set n (t ∷ ts) (suc i) r lt h zero = h zero
 below_set n (t ∷ ts) (suc i) r lt h (suc x) = below_set n ts i r lt (λ y. h (suc y)) x
 
 pub loop-r-init : goal.loop-r-init
-loop-r-init c = (refl, below_none (rules_n c.args.table.now.bytes.now) 2048)
+loop-r-init c = (refl, below_none (rules_n c.args.table.now.view.bytes.now) 2048)
 
 pub rule-taker-requires : goal.rule-taker-requires
-rule-taker-requires c = omega (arith, rules_long c.args.table.now.bytes.now)
+rule-taker-requires c = omega (arith, rules_long c.args.table.now.view.bytes.now)
 
 pub loop-r-preserved : goal.loop-r-preserved
 loop-r-preserved c =
-    let n = rules_n c.args.table.now.bytes.now in
+    let n = rules_n c.args.table.now.view.bytes.now in
     let i = c.loop-r.invariant in
-    let lt : c.loop-r.r < n = omega (arith, rules_long c.args.table.now.bytes.now) in
+    let lt : c.loop-r.r < n = omega (arith, rules_long c.args.table.now.view.bytes.now) in
     elim c.match-taker.branch [
       | in-Take w ↦ subst (λ (ts : List (Option ℕ)). (length ts ≡ 2048) × Below n ts) (sym w.takers-is) (length-set c.loop-r.takers w.taker_cell.result _ ∙ i.0, below_set n c.loop-r.takers w.taker_cell.result c.loop-r.r lt i.1)
       | in_default w ↦ subst (λ (ts : List (Option ℕ)). (length ts ≡ 2048) × Below n ts) (sym w.takers-is) i
