@@ -1,7 +1,7 @@
 -- What the tests of a record that is held decide. Assumes nothing.
-use Rattle.std.proofs.Common.{◌≡◌, ℕ, ◌<◌, Bool, List, [], ◌∷◌, ◌++◌, length, get_or, Some, Ok, Err, Decides, Result, sym, refl, ap, ◌∙◌, subst, arith}
+use Rattle.std.proofs.Common.{◌≡◌, ℕ, ◌<◌, Bool, false, List, [], ◌∷◌, ◌++◌, length, get_or, Some, Ok, Err, Decides, Option, Result, sym, refl, ap, ◌∙◌, subst, arith}
 use Rattle.model.specs.Bad.{NoTake}
-use Rattle.model.specs.Order.{each, one}
+use Rattle.model.specs.Order.{Order, Nothing, each, one}
 use Rattle.model.specs.Queue.{Over}
 use Rattle.model.specs.System.{System, machines, WellFormed, RuleFits, pattern_of, rule_of}
 use Rattle.model.specs.declared.fault.Fault.{Fault}
@@ -17,22 +17,34 @@ use Rattle.checker.specs.declared.held.Held.{Held}
 use Rattle.closed_sets.proofs.Lets.{surprise_lets, pattern_lets}
 use Rattle.closed_sets.proofs.Outside.{outside_lets, outside_not}
 use Rattle.closed_sets.specs.Codes.{MaySurprise, MayMeet, Leads}
-use Rattle.closed_sets.specs.Judging.{Leaves, Applies, Judged, outcomes, outcomes_of, surprise, met, outside}
+use Rattle.closed_sets.specs.Judging.{Finding, Leaves, Applies, Judged, outcomes, outcomes_of, surprise, met, outside}
 use Rattle.closed_sets.specs.Records.{Claim, Record, record_of, local_in, code_in, Listed, Lets}
 use Rattle.closed_sets.specs.Theorems.{Means}
+use Rattle.std.proofs.lemmas.Bool.{true≢false}
 use Rattle.std.proofs.lemmas.Bool.Decides.{Decides-like}
 use Rattle.std.specs.List.{slice_get}
+use Rattle.std.specs.Result.{is_err}
 
 module _ (T : Claim) (law : Means T) (n k : ℕ) (h : Held) (j : Judging T n k h) where
   pub entry_is : (i l c : ℕ) → (l, c) ≡ get_or (record_in h) i (0, 0) → (l, c) ≡ get_or (record_of T k) i (0, 0)
   entry_is i l c q = q ∙ ap (λ (r : Record). get_or r i (0, 0)) j.is
+
+  pub entry_code : (i l c : ℕ) → (l, c) ≡ get_or (record_in h) i (0, 0) → c ≡ code_in (record_of T k) i
+  entry_code i l c q = ap (λ (x : ℕ × ℕ). x.1) (entry_is i l c q)
+
+  -- what is removed from the code that is held is removed from that of record k
+  pub removals_at : (i l d m : ℕ) → (l, d) ≡ get_or (record_in h) i (0, 0) → m ≡ T.system.events → T.removals m d ≡ T.removals T.system.events (code_in (record_of T k) i)
+  removals_at i l d m q ev = ap (λ (z : ℕ). T.removals z d) ev ∙ ap (T.removals T.system.events) (entry_code i l d q)
+
+  pub enabled_at : (r : ℕ) (x : Rule) (a : Action) (l d : ℕ) → r < length T.system.rules → x ≡ rule_of T.system r → (l, d) ≡ get_or (record_in h) x.machine (0, 0) → l ≡ x.from → x.action ≡ a → Enabled T k r x a
+  enabled_at r x a l d lt is q from action = record { below = lt; is = is; action = action; from = sym (ap (λ (z : ℕ × ℕ). z.0) (entry_is x.machine l d q)) ∙ from }
 
   module _ (i e l c m : ℕ) (q : (l, c) ≡ get_or (record_in h) i (0, 0)) (lt : i < machines T.system) (ev : m ≡ T.system.events) where
     is_local : l ≡ local_in (record_of T k) i
     is_local = ap (λ (x : ℕ × ℕ). x.0) (entry_is i l c q)
 
     is_code : c ≡ code_in (record_of T k) i
-    is_code = ap (λ (x : ℕ × ℕ). x.1) (entry_is i l c q)
+    is_code = entry_code i l c q
 
     pub surprise_not : (NoTake T.system i l e → ⊥) → Applies T (surprise k i e) → ⊥
     surprise_not taken a = taken (subst (λ (z : ℕ). NoTake T.system i z e) (sym is_local) ((surprise_lets T law (record_of T k) j.sound i e lt).1 a).1)
@@ -125,3 +137,8 @@ appends_as code m n b c e d f g h =
 -- the rule of a number names what is there
 pub rule_fits : (S : System) → WellFormed S → (r : ℕ) → r < length S.rules → (x : Rule) → x ≡ rule_of S r → RuleFits S x
 rule_fits S p r h x e = subst (RuleFits S) (sym e) (p.rules r h)
+
+-- where no error is answered, nothing of the order applies
+pub judged_ok : (T : Claim) (o : Order Finding) (r : Result (Unit {0}) Fault) → is_err r ≡ false → Judged T o r → Nothing (Applies T) o
+judged_ok T o (Ok v) e h = h
+judged_ok T o (Err f) e h = absurd (true≢false e)

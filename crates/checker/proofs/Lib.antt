@@ -1,5 +1,7 @@
 pub mod Read
 pub mod Ordered
 pub mod Holding
+pub mod Walking
 pub mod Deciding
 pub mod Whole
+pub mod Removing

@@ -1,9 +1,15 @@
 -- Runs of bytes in order, and the records that they are. Assumes nothing.
-use Rattle.std.proofs.Common.{◌≡◌, ℕ, zero, suc, ◌+◌, ◌-◌, ◌*◌, ◌/◌, ◌%◌, ◌^◌, ◌<◌, ◌≤◌, Bool, cond, List, length, get_or, sym, ap, ◌∙◌, subst, inl, inr, mul-le-mul_left, mul-suc, arith}
+use Rattle.std.proofs.Common.{◌≡◌, ℕ, zero, suc, ◌+◌, ◌-◌, ◌*◌, ◌/◌, ◌%◌, ◌^◌, ◌<◌, ◌≤◌, Bool, cond, List, length, get_or, sym, refl, ap, ◌∙◌, subst, inl, inr, mul-le-mul_left, mul-suc, arith, Ordering, nat_cmp}
+use Rattle.std.specs.Ordering.{MatchOrdering}
+use Rattle.std.specs.declared.cmp.Ordering.TheVariants.{Less, Equal, Greater}
+use Rattle.std.specs.Cmp.{ranks}
+use Rattle.std.specs.Slice.Scan.{digits_from}
+use Rattle.std.proofs.Math.Nat.{div-div-eq-div-mul}
+use Rattle.std.proofs.lemmas.Nat.{pow-add}
 use Rattle.std.proofs.lemmas.Bool.{cases_lt, cases_eq, ne_eqb}
 use Rattle.std.proofs.lemmas.List.FromFn.{fill_by_all, get_or-map-range_with_len}
-use Rattle.checker.specs.SetFile.{record_byte, byte_of, byte_in, Before, Same, long_at, record_at}
-use Rattle.closed_sets.specs.Records.{Record, code_in}
+use Rattle.checker.specs.SetFile.{record_byte, entry_byte, byte_of, byte_in, Before, Same, long_at, record_at}
+use Rattle.closed_sets.specs.Records.{Record, code_in, local_in}
 use Rattle.table.specs.Bytes.{word_at}
 
 pub before_trans : (z : ℕ) (f g h : ℕ → ℕ) → Before z f g → Before z g h → Before z f h
@@ -34,46 +40,56 @@ module _ (n : ℕ) (bs : List ℕ) (rising : (k : ℕ) → k + 1 < word_at bs 10
       let e : j + (k - j - 1) + 1 ≡ k = omega arith in
       subst (λ (x : ℕ). Before (9 * n) (record_byte n bs j) (record_byte n bs x)) e (steps_on j (k - j - 1) (omega arith))
 
-digits : (c : ℕ) → c < 2 ^ 64 → c % 256 + c / 2 ^ 8 % 256 * 256 + c / 2 ^ 16 % 256 * 256 ^ 2 + c / 2 ^ 24 % 256 * 256 ^ 3 + c / 2 ^ 32 % 256 * 256 ^ 4 + c / 2 ^ 40 % 256 * 256 ^ 5 + c / 2 ^ 48 % 256 * 256 ^ 6 + c / 2 ^ 56 % 256 * 256 ^ 7 ≡ c
-digits c h = omega arith
+-- byte t of a code, the low byte first
+abbrev pub digit : ℕ → ℕ → ℕ
+digit c t = c / 2 ^ (8 * t) % 256
 
-digit_0 : (a b c d e f g h : ℕ) → a < 256 → b < 256 → c < 256 → d < 256 → e < 256 → f < 256 → g < 256 → h < 256 → (a + b * 256 + c * 256 ^ 2 + d * 256 ^ 3 + e * 256 ^ 4 + f * 256 ^ 5 + g * 256 ^ 6 + h * 256 ^ 7) / 2 ^ 0 % 256 ≡ a
-digit_0 a b c d e f g h ha hb hc hd he hf hg hh = omega arith
+-- behind its local state an entry has the bytes of its code
+byte_behind : (l c t : ℕ) → byte_in (l, c) (suc t) ≡ digit c t
+byte_behind l c t =
+    ap (λ (b : Bool). cond b l (c / 2 ^ (8 * (suc t - 1)) % 256)) (ne_eqb (suc t) 0 (λ e. absurd (omega arith)))
+    ∙ (let q : suc t - 1 ≡ t = omega arith in ap (digit c) q)
 
-digit_1 : (a b c d e f g h : ℕ) → a < 256 → b < 256 → c < 256 → d < 256 → e < 256 → f < 256 → g < 256 → h < 256 → (a + b * 256 + c * 256 ^ 2 + d * 256 ^ 3 + e * 256 ^ 4 + f * 256 ^ 5 + g * 256 ^ 6 + h * 256 ^ 7) / 2 ^ 8 % 256 ≡ b
-digit_1 a b c d e f g h ha hb hc hd he hf hg hh = omega arith
+-- a number of n bytes, the low byte first, has its byte t at place t
+digit_from : (f : ℕ → ℕ) → ((t : ℕ) → f t < 256) → (n k t : ℕ) → t < n → digits_from f k n / 2 ^ (8 * t) % 256 ≡ f (k + t)
+digit_from f h zero k t l = absurd (omega arith)
+digit_from f h (suc n) k zero l = let e : k ≡ k + 0 = omega arith in omega (arith, h k, ap f e)
+digit_from f h (suc n) k (suc t) l =
+    let r = digits_from f (suc k) n in
+    let half : (f k + 256 * r) / 256 ≡ r = omega (arith, h k) in
+    let e : 8 * suc t ≡ 8 + 8 * t = omega arith in
+    let p : 2 ^ (8 * suc t) ≡ 256 * 2 ^ (8 * t) = ap (λ (z : ℕ). 2 ^ z) e ∙ pow-add 2 8 (8 * t) in
+    let q : suc k + t ≡ k + suc t = omega arith in
+    ap (λ (z : ℕ). (f k + 256 * r) / z % 256) p
+    ∙ ap (λ (z : ℕ). z % 256) (sym (div-div-eq-div-mul (f k + 256 * r) 256 (2 ^ (8 * t))))
+    ∙ ap (λ (z : ℕ). z / 2 ^ (8 * t) % 256) half
+    ∙ digit_from f h n (suc k) t (omega arith)
+    ∙ ap f q
 
-digit_2 : (a b c d e f g h : ℕ) → a < 256 → b < 256 → c < 256 → d < 256 → e < 256 → f < 256 → g < 256 → h < 256 → (a + b * 256 + c * 256 ^ 2 + d * 256 ^ 3 + e * 256 ^ 4 + f * 256 ^ 5 + g * 256 ^ 6 + h * 256 ^ 7) / 2 ^ 16 % 256 ≡ c
-digit_2 a b c d e f g h ha hb hc hd he hf hg hh = omega arith
+digits_same : (f g : ℕ → ℕ) (n k : ℕ) → ((t : ℕ) → k ≤ t → t < k + n → f t ≡ g t) → digits_from f k n ≡ digits_from g k n
+digits_same f g zero k h = refl
+digits_same f g (suc n) k h = omega (arith, h k (omega arith) (omega arith), digits_same f g n (suc k) (λ t a b. h t (omega arith) (omega arith)))
 
-digit_3 : (a b c d e f g h : ℕ) → a < 256 → b < 256 → c < 256 → d < 256 → e < 256 → f < 256 → g < 256 → h < 256 → (a + b * 256 + c * 256 ^ 2 + d * 256 ^ 3 + e * 256 ^ 4 + f * 256 ^ 5 + g * 256 ^ 6 + h * 256 ^ 7) / 2 ^ 24 % 256 ≡ d
-digit_3 a b c d e f g h ha hb hc hd he hf hg hh = omega arith
+-- a code is the number of its bytes
+digits_of : (c : ℕ) → c < 2 ^ 64 → digits_from (digit c) 0 8 ≡ c
+digits_of c h = omega arith
 
-digit_4 : (a b c d e f g h : ℕ) → a < 256 → b < 256 → c < 256 → d < 256 → e < 256 → f < 256 → g < 256 → h < 256 → (a + b * 256 + c * 256 ^ 2 + d * 256 ^ 3 + e * 256 ^ 4 + f * 256 ^ 5 + g * 256 ^ 6 + h * 256 ^ 7) / 2 ^ 32 % 256 ≡ e
-digit_4 a b c d e f g h ha hb hc hd he hf hg hh = omega arith
+long_digits : (bs : List ℕ) (o : ℕ) → long_at bs o ≡ digits_from (λ t. get_or bs (o + t) 0) 0 8
+long_digits bs o = let e : o ≡ o + 0 = omega arith in omega (arith, ap (λ (z : ℕ). get_or bs z 0) e)
 
-digit_5 : (a b c d e f g h : ℕ) → a < 256 → b < 256 → c < 256 → d < 256 → e < 256 → f < 256 → g < 256 → h < 256 → (a + b * 256 + c * 256 ^ 2 + d * 256 ^ 3 + e * 256 ^ 4 + f * 256 ^ 5 + g * 256 ^ 6 + h * 256 ^ 7) / 2 ^ 40 % 256 ≡ f
-digit_5 a b c d e f g h ha hb hc hd he hf hg hh = omega arith
-
-digit_6 : (a b c d e f g h : ℕ) → a < 256 → b < 256 → c < 256 → d < 256 → e < 256 → f < 256 → g < 256 → h < 256 → (a + b * 256 + c * 256 ^ 2 + d * 256 ^ 3 + e * 256 ^ 4 + f * 256 ^ 5 + g * 256 ^ 6 + h * 256 ^ 7) / 2 ^ 48 % 256 ≡ g
-digit_6 a b c d e f g h ha hb hc hd he hf hg hh = omega arith
-
-digit_7 : (a b c d e f g h : ℕ) → a < 256 → b < 256 → c < 256 → d < 256 → e < 256 → f < 256 → g < 256 → h < 256 → (a + b * 256 + c * 256 ^ 2 + d * 256 ^ 3 + e * 256 ^ 4 + f * 256 ^ 5 + g * 256 ^ 6 + h * 256 ^ 7) / 2 ^ 56 % 256 ≡ h
-digit_7 a b c d e f g h ha hb hc hd he hf hg hh = omega arith
+long_small : (bs : List ℕ) → ((i : ℕ) → get_or bs i 0 < 256) → (o : ℕ) → long_at bs o < 2 ^ 64
+long_small bs bytes o = omega (arith, bytes o, bytes (o + 1), bytes (o + 2), bytes (o + 3), bytes (o + 4), bytes (o + 5), bytes (o + 6), bytes (o + 7))
 
 -- byte s of the entry that stands at o
 module _ (bs : List ℕ) (bytes : (i : ℕ) → get_or bs i 0 < 256) where
   pub byte_is : (o s : ℕ) → s < 9 → get_or bs (o + s) 0 ≡ byte_in (get_or bs o 0, long_at bs (o + 1)) s
   byte_is o zero h = ap (λ (z : ℕ). get_or bs z 0) (omega arith)
-  byte_is o (suc zero) h = let e : o + 1 ≡ o + 1 = omega arith in ap (λ (z : ℕ). get_or bs z 0) e ∙ sym (digit_0 (get_or bs (o + 1) 0) (get_or bs (o + 1 + 1) 0) (get_or bs (o + 1 + 2) 0) (get_or bs (o + 1 + 3) 0) (get_or bs (o + 1 + 4) 0) (get_or bs (o + 1 + 5) 0) (get_or bs (o + 1 + 6) 0) (get_or bs (o + 1 + 7) 0) (bytes (o + 1)) (bytes (o + 1 + 1)) (bytes (o + 1 + 2)) (bytes (o + 1 + 3)) (bytes (o + 1 + 4)) (bytes (o + 1 + 5)) (bytes (o + 1 + 6)) (bytes (o + 1 + 7)))
-  byte_is o (suc (suc zero)) h = let e : o + 2 ≡ o + 1 + 1 = omega arith in ap (λ (z : ℕ). get_or bs z 0) e ∙ sym (digit_1 (get_or bs (o + 1) 0) (get_or bs (o + 1 + 1) 0) (get_or bs (o + 1 + 2) 0) (get_or bs (o + 1 + 3) 0) (get_or bs (o + 1 + 4) 0) (get_or bs (o + 1 + 5) 0) (get_or bs (o + 1 + 6) 0) (get_or bs (o + 1 + 7) 0) (bytes (o + 1)) (bytes (o + 1 + 1)) (bytes (o + 1 + 2)) (bytes (o + 1 + 3)) (bytes (o + 1 + 4)) (bytes (o + 1 + 5)) (bytes (o + 1 + 6)) (bytes (o + 1 + 7)))
-  byte_is o (suc (suc (suc zero))) h = let e : o + 3 ≡ o + 1 + 2 = omega arith in ap (λ (z : ℕ). get_or bs z 0) e ∙ sym (digit_2 (get_or bs (o + 1) 0) (get_or bs (o + 1 + 1) 0) (get_or bs (o + 1 + 2) 0) (get_or bs (o + 1 + 3) 0) (get_or bs (o + 1 + 4) 0) (get_or bs (o + 1 + 5) 0) (get_or bs (o + 1 + 6) 0) (get_or bs (o + 1 + 7) 0) (bytes (o + 1)) (bytes (o + 1 + 1)) (bytes (o + 1 + 2)) (bytes (o + 1 + 3)) (bytes (o + 1 + 4)) (bytes (o + 1 + 5)) (bytes (o + 1 + 6)) (bytes (o + 1 + 7)))
-  byte_is o (suc (suc (suc (suc zero)))) h = let e : o + 4 ≡ o + 1 + 3 = omega arith in ap (λ (z : ℕ). get_or bs z 0) e ∙ sym (digit_3 (get_or bs (o + 1) 0) (get_or bs (o + 1 + 1) 0) (get_or bs (o + 1 + 2) 0) (get_or bs (o + 1 + 3) 0) (get_or bs (o + 1 + 4) 0) (get_or bs (o + 1 + 5) 0) (get_or bs (o + 1 + 6) 0) (get_or bs (o + 1 + 7) 0) (bytes (o + 1)) (bytes (o + 1 + 1)) (bytes (o + 1 + 2)) (bytes (o + 1 + 3)) (bytes (o + 1 + 4)) (bytes (o + 1 + 5)) (bytes (o + 1 + 6)) (bytes (o + 1 + 7)))
-  byte_is o (suc (suc (suc (suc (suc zero))))) h = let e : o + 5 ≡ o + 1 + 4 = omega arith in ap (λ (z : ℕ). get_or bs z 0) e ∙ sym (digit_4 (get_or bs (o + 1) 0) (get_or bs (o + 1 + 1) 0) (get_or bs (o + 1 + 2) 0) (get_or bs (o + 1 + 3) 0) (get_or bs (o + 1 + 4) 0) (get_or bs (o + 1 + 5) 0) (get_or bs (o + 1 + 6) 0) (get_or bs (o + 1 + 7) 0) (bytes (o + 1)) (bytes (o + 1 + 1)) (bytes (o + 1 + 2)) (bytes (o + 1 + 3)) (bytes (o + 1 + 4)) (bytes (o + 1 + 5)) (bytes (o + 1 + 6)) (bytes (o + 1 + 7)))
-  byte_is o (suc (suc (suc (suc (suc (suc zero)))))) h = let e : o + 6 ≡ o + 1 + 5 = omega arith in ap (λ (z : ℕ). get_or bs z 0) e ∙ sym (digit_5 (get_or bs (o + 1) 0) (get_or bs (o + 1 + 1) 0) (get_or bs (o + 1 + 2) 0) (get_or bs (o + 1 + 3) 0) (get_or bs (o + 1 + 4) 0) (get_or bs (o + 1 + 5) 0) (get_or bs (o + 1 + 6) 0) (get_or bs (o + 1 + 7) 0) (bytes (o + 1)) (bytes (o + 1 + 1)) (bytes (o + 1 + 2)) (bytes (o + 1 + 3)) (bytes (o + 1 + 4)) (bytes (o + 1 + 5)) (bytes (o + 1 + 6)) (bytes (o + 1 + 7)))
-  byte_is o (suc (suc (suc (suc (suc (suc (suc zero))))))) h = let e : o + 7 ≡ o + 1 + 6 = omega arith in ap (λ (z : ℕ). get_or bs z 0) e ∙ sym (digit_6 (get_or bs (o + 1) 0) (get_or bs (o + 1 + 1) 0) (get_or bs (o + 1 + 2) 0) (get_or bs (o + 1 + 3) 0) (get_or bs (o + 1 + 4) 0) (get_or bs (o + 1 + 5) 0) (get_or bs (o + 1 + 6) 0) (get_or bs (o + 1 + 7) 0) (bytes (o + 1)) (bytes (o + 1 + 1)) (bytes (o + 1 + 2)) (bytes (o + 1 + 3)) (bytes (o + 1 + 4)) (bytes (o + 1 + 5)) (bytes (o + 1 + 6)) (bytes (o + 1 + 7)))
-  byte_is o (suc (suc (suc (suc (suc (suc (suc (suc zero)))))))) h = let e : o + 8 ≡ o + 1 + 7 = omega arith in ap (λ (z : ℕ). get_or bs z 0) e ∙ sym (digit_7 (get_or bs (o + 1) 0) (get_or bs (o + 1 + 1) 0) (get_or bs (o + 1 + 2) 0) (get_or bs (o + 1 + 3) 0) (get_or bs (o + 1 + 4) 0) (get_or bs (o + 1 + 5) 0) (get_or bs (o + 1 + 6) 0) (get_or bs (o + 1 + 7) 0) (bytes (o + 1)) (bytes (o + 1 + 1)) (bytes (o + 1 + 2)) (bytes (o + 1 + 3)) (bytes (o + 1 + 4)) (bytes (o + 1 + 5)) (bytes (o + 1 + 6)) (bytes (o + 1 + 7)))
-  byte_is o (suc (suc (suc (suc (suc (suc (suc (suc (suc s))))))))) h = absurd (omega arith)
+  byte_is o (suc t) h =
+      let e : o + suc t ≡ o + 1 + (0 + t) = omega arith in
+      ap (λ (z : ℕ). get_or bs z 0) e
+      ∙ sym (digit_from (λ j. get_or bs (o + 1 + j) 0) (λ j. bytes (o + 1 + j)) 8 0 t (omega arith))
+      ∙ ap (λ (z : ℕ). digit z t) (sym (long_digits bs (o + 1)))
+      ∙ sym (byte_behind (get_or bs o 0) (long_at bs (o + 1)) t)
 
 module _ (n : ℕ) (bs : List ℕ) (k : ℕ) (r : Record) where
   -- byte s of machine i
@@ -83,6 +99,14 @@ module _ (n : ℕ) (bs : List ℕ) (k : ℕ) (r : Record) where
       let m : (9 * i + s) % 9 ≡ s = omega arith in
       ap (λ (z : ℕ). byte_in (get_or r z (0, 0)) ((9 * i + s) % 9)) d ∙ ap (byte_in (get_or r i (0, 0))) m
 
+  -- where entry i of the record stands
+  pub entry_there : (i o : ℕ) → o ≡ 16 + 9 * n * k + 9 * i → (s : ℕ) → s < 9 → record_byte n bs k (9 * i + s) ≡ entry_byte bs o s
+  entry_there i o at s h = let e : 16 + 9 * n * k + (9 * i + s) ≡ o + s = omega arith in ap (λ (z : ℕ). get_or bs z 0) e
+
+  -- where what it says of machine i is known
+  pub entry_here : (i : ℕ) (p : ℕ × ℕ) → p ≡ get_or r i (0, 0) → (s : ℕ) → s < 9 → byte_of r (9 * i + s) ≡ byte_in p s
+  entry_here i p is s h = byte_of_lem i s h ∙ ap (λ (z : ℕ × ℕ). byte_in z s) (sym is)
+
   module _ (i : ℕ) (h : i < n) (same : Same (9 * n) (record_byte n bs k) (byte_of r)) where
     place : (s o : ℕ) → s < 9 → 16 + 9 * n * k + (9 * i + s) ≡ o → get_or bs o 0 ≡ byte_in (get_or r i (0, 0)) s
     place s o l e = ap (λ (z : ℕ). get_or bs z 0) (sym e) ∙ same (9 * i + s) (omega arith) ∙ byte_of_lem i s l
@@ -90,18 +114,9 @@ module _ (n : ℕ) (bs : List ℕ) (k : ℕ) (r : Record) where
     long_is : code_in r i < 2 ^ 64 → long_at bs (16 + 9 * n * k + 9 * i + 1) ≡ code_in r i
     long_is small =
         let o = 16 + 9 * n * k + 9 * i + 1 in
-        let b0 = place 1 o (omega arith) (omega arith) in
-        let b1 = place 2 (o + 1) (omega arith) (omega arith) in
-        let b2 = place 3 (o + 2) (omega arith) (omega arith) in
-        let b3 = place 4 (o + 3) (omega arith) (omega arith) in
-        let b4 = place 5 (o + 4) (omega arith) (omega arith) in
-        let b5 = place 6 (o + 5) (omega arith) (omega arith) in
-        let b6 = place 7 (o + 6) (omega arith) (omega arith) in
-        let b7 = place 8 (o + 7) (omega arith) (omega arith) in
-        eight _ _ _ _ _ _ _ _ (code_in r i) b0 b1 b2 b3 b4 b5 b6 b7 small
-      where
-        eight : (a b c d e f g h z : ℕ) → a ≡ z / 2 ^ 0 % 256 → b ≡ z / 2 ^ 8 % 256 → c ≡ z / 2 ^ 16 % 256 → d ≡ z / 2 ^ 24 % 256 → e ≡ z / 2 ^ 32 % 256 → f ≡ z / 2 ^ 40 % 256 → g ≡ z / 2 ^ 48 % 256 → h ≡ z / 2 ^ 56 % 256 → z < 2 ^ 64 → a + b * 256 + c * 256 ^ 2 + d * 256 ^ 3 + e * 256 ^ 4 + f * 256 ^ 5 + g * 256 ^ 6 + h * 256 ^ 7 ≡ z
-        eight a b c d e f g h z pa pb pc pd pe pf pg ph l = omega arith
+        long_digits bs o
+        ∙ digits_same (λ t. get_or bs (o + t) 0) (digit (code_in r i)) 8 0 (λ t a b. place (suc t) (o + t) (omega arith) (omega arith) ∙ byte_behind (local_in r i) (code_in r i) t)
+        ∙ digits_of (code_in r i) small
 
     entry_same : code_in r i < 2 ^ 64 → get_or r i (0, 0) ≡ (get_or bs (16 + 9 * n * k + 9 * i) 0, long_at bs (16 + 9 * n * k + 9 * i + 1))
     entry_same small =
@@ -154,10 +169,6 @@ module _ (f g : ℕ → ℕ) (hf : (t : ℕ) → f t < 256) (hg : (t : ℕ) → 
     | inr ge ↦ (n, omega arith, number_same n (omega (arith, hf n, hg n, h)), omega (arith, hf n, hg n, h))
   ]
 
--- byte t of a code, the low byte first
-abbrev pub digit : ℕ → ℕ → ℕ
-digit c t = c / 2 ^ (8 * t) % 256
-
 digit_small : (c t : ℕ) → digit c t < 256
 digit_small c t = omega arith
 
@@ -173,23 +184,10 @@ module _ (a b : ℕ) where
   pub swapped_before : swapped a < swapped b → Before 8 (digit a) (digit b)
   swapped_before h = number_before (digit a) (digit b) (digit_small a) (digit_small b) 8 (subst (λ (z : ℕ). z < number 8 (digit b)) (swapped_is a) (subst (λ (z : ℕ). swapped a < z) (swapped_is b) h))
 
-  pub swapped_apart : a < 2 ^ 64 → b < 2 ^ 64 → (a ≡ b → ⊥) → swapped a ≡ swapped b → ⊥
-  swapped_apart ha hb ne e =
+  pub swapped_same : a < 2 ^ 64 → b < 2 ^ 64 → swapped a ≡ swapped b → a ≡ b
+  swapped_same ha hb e =
       let s = number_same (digit a) (digit b) (digit_small a) (digit_small b) 8 (sym (swapped_is a) ∙ e ∙ swapped_is b) in
-      let first : a % 256 ≡ b % 256 = low (s 0 (omega arith)) in
-      ne (sym (digits a ha) ∙ alike _ _ _ _ _ _ _ _ _ _ _ _ _ _ _ _ first (s 1 (omega arith)) (s 2 (omega arith)) (s 3 (omega arith)) (s 4 (omega arith)) (s 5 (omega arith)) (s 6 (omega arith)) (s 7 (omega arith)) ∙ digits b hb)
-    where
-      low : a / 1 % 256 ≡ b / 1 % 256 → a % 256 ≡ b % 256
-      low e = omega arith
-
-      alike : (c d e f g h i j c' d' e' f' g' h' i' j' : ℕ) → c ≡ c' → d ≡ d' → e ≡ e' → f ≡ f' → g ≡ g' → h ≡ h' → i ≡ i' → j ≡ j' → c + d * 256 + e * 256 ^ 2 + f * 256 ^ 3 + g * 256 ^ 4 + h * 256 ^ 5 + i * 256 ^ 6 + j * 256 ^ 7 ≡ c' + d' * 256 + e' * 256 ^ 2 + f' * 256 ^ 3 + g' * 256 ^ 4 + h' * 256 ^ 5 + i' * 256 ^ 6 + j' * 256 ^ 7
-      alike c d e f g h i j c' d' e' f' g' h' i' j' pc pd pe pf pg ph pi pj = cc
-
--- behind its local state an entry has the bytes of its code
-byte_behind : (l c t : ℕ) → byte_in (l, c) (suc t) ≡ digit c t
-byte_behind l c t =
-    ap (λ (b : Bool). cond b l (c / 2 ^ (8 * (suc t - 1)) % 256)) (ne_eqb (suc t) 0 (λ e. absurd (omega arith)))
-    ∙ (let q : suc t - 1 ≡ t = omega arith in ap (digit c) q)
+      sym (digits_of a ha) ∙ digits_same (digit a) (digit b) 8 0 (λ t l u. s t u) ∙ digits_of b hb
 
 -- entries with one local state stand as their codes do
 pub codes_before : (l m a b : ℕ) → l ≡ m → Before 8 (digit a) (digit b) → Before 9 (byte_in (l, a)) (byte_in (m, b))
@@ -219,3 +217,40 @@ module _ (n i : ℕ) (f g p q : ℕ → ℕ) (h : i < n) (same : Same (9 * i) f 
         | inl lt ↦ same t lt
         | inr ge ↦ (let k : 9 * i + (t - 9 * i) ≡ t = omega arith in subst (λ (z : ℕ). f z ≡ g z) k (fp (t - 9 * i) (omega arith) ∙ e (t - 9 * i) (omega arith) ∙ sym (gq (t - 9 * i) (omega arith))))
       ]
+
+-- the entry that stands at o and another, compared by their local states and then by their codes, read with the first byte the highest
+module _ (bs : List ℕ) (bytes : (i : ℕ) → get_or bs i 0 < 256) (o m b : ℕ) (small : b < 2 ^ 64) where
+  abbrev pub Stands : Ordering → Type 0
+  Stands x = MatchOrdering x (Before 9 (entry_byte bs o) (byte_in (m, b))) (Same 9 (entry_byte bs o) (byte_in (m, b)) × (b < 2 ^ 64)) (Before 9 (byte_in (m, b)) (entry_byte bs o))
+
+  by_code : (x : Ordering) → get_or bs o 0 ≡ m → MatchOrdering x (swapped (long_at bs (o + 1)) < swapped b) (swapped (long_at bs (o + 1)) ≡ swapped b) (swapped b < swapped (long_at bs (o + 1))) → Stands x
+  by_code Less e h = before_left 9 (byte_in (get_or bs o 0, long_at bs (o + 1))) (byte_in (m, b)) (entry_byte bs o) (codes_before (get_or bs o 0) m (long_at bs (o + 1)) b e (swapped_before (long_at bs (o + 1)) b h)) (byte_is bs bytes o)
+  by_code Equal e h = ((λ t l. byte_is bs bytes o t l ∙ ap (λ (z : ℕ). byte_in (z, long_at bs (o + 1)) t) e ∙ ap (λ (z : ℕ). byte_in (m, z) t) (swapped_same (long_at bs (o + 1)) b (long_small bs bytes (o + 1)) small h)), small)
+  by_code Greater e h = before_right 9 (byte_in (m, b)) (byte_in (get_or bs o 0, long_at bs (o + 1))) (entry_byte bs o) (codes_before m (get_or bs o 0) b (long_at bs (o + 1)) (sym e) (swapped_before b (long_at bs (o + 1)) h)) (byte_is bs bytes o)
+
+  first : entry_byte bs o 0 ≡ get_or bs o 0
+  first = ap (λ (z : ℕ). get_or bs z 0) (omega arith)
+
+  first_in : byte_in (m, b) 0 ≡ m
+  first_in = refl
+
+  by_local : (x : Ordering) → (x ≡ Equal → ⊥) → MatchOrdering x (get_or bs o 0 < m) (get_or bs o 0 ≡ m) (m < get_or bs o 0) → Stands x
+  by_local Less ne h = (0, omega arith, (λ t l. absurd (omega (arith, l))), omega (arith, h, first, first_in))
+  by_local Equal ne h = absurd (ne refl)
+  by_local Greater ne h = (0, omega arith, (λ t l. absurd (omega (arith, l))), omega (arith, h, first, first_in))
+
+  abbrev Ranked : ℕ → ℕ → Ordering → Type 0
+  Ranked y z x = MatchOrdering x (y < z) (y ≡ z) (z < y)
+
+  -- where the local states are the same, the codes say
+  pub codes_stand : (x : Ordering) → nat_cmp (get_or bs o 0) m ≡ Equal → x ≡ nat_cmp (swapped (long_at bs (o + 1))) (swapped b) → Stands x
+  codes_stand x e h = by_code x (subst (Ranked (get_or bs o 0) m) e (ranks (get_or bs o 0) m)) (subst (Ranked (swapped (long_at bs (o + 1))) (swapped b)) (sym h) (ranks (swapped (long_at bs (o + 1))) (swapped b)))
+
+  pub locals_stand : (x : Ordering) → (x ≡ Equal → ⊥) → x ≡ nat_cmp (get_or bs o 0) m → Stands x
+  locals_stand x ne h = by_local x ne (subst (Ranked (get_or bs o 0) m) (sym h) (ranks (get_or bs o 0) m))
+
+-- an answer that is not Equal is one of the other two
+pub apart : {P P' R R' : Type 0} (Q Q' : Type 0) (x : Ordering) → (x ≡ Equal → ⊥) → (P → P') → (R → R') → MatchOrdering x P Q R → MatchOrdering x P' Q' R'
+apart Q Q' Less ne f g h = f h
+apart Q Q' Equal ne f g h = absurd (ne refl)
+apart Q Q' Greater ne f g h = g h

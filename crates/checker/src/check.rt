@@ -1,52 +1,49 @@
 // The check of a table against a state set, under any queue abstraction.
 ghost use Rattle.std.specs.Prelude.{◌≡◌, ℕ, ◌<◌, OnOk};
-ghost use Rattle.model.specs.Order.{Answered};
 ghost use Rattle.table.specs.Layout.{machines_n};
-ghost use Rattle.closed_sets.specs.Records.{record_of, Sound, Closed};
+ghost use Rattle.closed_sets.specs.Records.{Closed};
+ghost use Rattle.checker.specs.Case.{claim, FindsFirst, AllSound};
 ghost use Rattle.checker.specs.Promise.{Checked, SetRead};
-ghost use Rattle.checker.specs.Ready.{Ready};
-ghost use Rattle.checker.specs.SetFile.{claim_of, records_n, SetReady};
-ghost use Rattle.checker.specs.Verdict.{Applies, numbers, closed_order, set_order};
+ghost use Rattle.checker.specs.SetFile.{claim_of, SetReady};
+ghost use Rattle.checker.specs.Verdict.{closed_order, set_order};
 
-use crate::form::{check_form, has_start};
-use crate::judge::check_records;
+use crate::case::{Case, Judge};
+use crate::parts::ReadTable;
 use crate::pass::{FULL_CAPACITY, Pass};
+use crate::plan::Plan;
 use crate::state_set::StateSet;
 use abstraction::QueueAbstraction;
 use model::fault::{Fault, Refusal};
 use table::header::fault_at;
 use table::view::Table;
 
-// The first thing that keeps a set in good form from being closed.
-fn check_closed<A: QueueAbstraction>(
-    table: &Table<'_>,
-    set: &StateSet<'_>,
-    abstraction: &A,
-) -> Result<(), Fault>
-    requires ready { Ready table.now.bytes.now }
-    requires rising { SetReady (machines_n table.now.bytes.now) set.now.bytes.now }
-    requires sound { (k : ℕ) → k < records_n set.now.bytes.now → Sound (claim_of table.now.bytes.now set.now.bytes.now (A.bits abstraction.now) (A.code abstraction.now) (A.removals abstraction.now)) (record_of (claim_of table.now.bytes.now set.now.bytes.now (A.bits abstraction.now) (A.code abstraction.now) (A.removals abstraction.now)) k) }
-    ensures first { Answered (Applies table.now.bytes.now set.now.bytes.now (claim_of table.now.bytes.now set.now.bytes.now (A.bits abstraction.now) (A.code abstraction.now) (A.removals abstraction.now))) (numbers table.now.bytes.now) (closed_order (claim_of table.now.bytes.now set.now.bytes.now (A.bits abstraction.now) (A.code abstraction.now) (A.removals abstraction.now))) result }
-    ensures closed { OnOk result (Closed (claim_of table.now.bytes.now set.now.bytes.now (A.bits abstraction.now) (A.code abstraction.now) (A.removals abstraction.now))) }
-{
-    if !has_start(table, set, abstraction) {
-        return Err(fault_at(Refusal::StartAbsent, 0));
+impl<A: QueueAbstraction> Judge<'_, '_, A> {
+    // The first thing that keeps a set in good form from being closed.
+    fn check_closed(&self) -> Result<(), Fault>
+        requires { AllSound A.QueueAbstraction self.now.case.now }
+        ensures first { FindsFirst A.QueueAbstraction self.now.case.now (closed_order (claim A.QueueAbstraction self.now.case.now)) result }
+        ensures closed { OnOk result (Closed (claim A.QueueAbstraction self.now.case.now)) }
+    {
+        if !self.has_start() {
+            return Err(fault_at(Refusal::StartAbsent, 0));
+        }
+        self.check_records()
     }
-    check_records(table, set, abstraction)
 }
 
-// The first thing wrong with a set, under a table that reads.
-fn check_set<A: QueueAbstraction>(
-    table: &Table<'_>,
-    set: &StateSet<'_>,
-    abstraction: &A,
-) -> Result<(), Fault>
-    requires ready { Ready table.now.bytes.now }
-    ensures first { Answered (Applies table.now.bytes.now set.now.bytes.now (claim_of table.now.bytes.now set.now.bytes.now (A.bits abstraction.now) (A.code abstraction.now) (A.removals abstraction.now))) (numbers table.now.bytes.now) (set_order set.now.bytes.now (claim_of table.now.bytes.now set.now.bytes.now (A.bits abstraction.now) (A.code abstraction.now) (A.removals abstraction.now))) result }
-    ensures closed { OnOk result (Closed (claim_of table.now.bytes.now set.now.bytes.now (A.bits abstraction.now) (A.code abstraction.now) (A.removals abstraction.now))) }
-{
-    check_form(table, set, abstraction)?;
-    check_closed(table, set, abstraction)
+impl<A: QueueAbstraction> Case<'_, '_, A> {
+    // The first thing wrong with the set.
+    fn check_set(&self) -> Result<(), Fault>
+        ensures first { FindsFirst A.QueueAbstraction self.now (set_order self.now.set.bytes.now (claim A.QueueAbstraction self.now)) result }
+        ensures closed { OnOk result (Closed (claim A.QueueAbstraction self.now)) }
+    {
+        self.check_form()?;
+        let judge = Judge {
+            case: self,
+            plan: Plan::of(&self.table),
+        };
+        judge.check_closed()
+    }
 }
 
 // A pass for the table if the set is in good form and closed; else the fault of the first thing wrong.
@@ -58,7 +55,13 @@ pub fn check<'a, A: QueueAbstraction>(
     ensures { Checked table.now set.now (claim_of table.now set.now (A.bits abstraction.now) (A.code abstraction.now) (A.removals abstraction.now)) result }
 {
     let view = Table::read(table)?;
-    check_set(&view, &StateSet::over(set), abstraction)?;
+    let table = ReadTable { view };
+    let case = Case {
+        table,
+        set: StateSet::over(set),
+        abstraction,
+    };
+    case.check_set()?;
     Ok(Pass {
         table: view,
         capacity: FULL_CAPACITY,
@@ -75,6 +78,12 @@ pub fn read_set<'a, A: QueueAbstraction>(
 {
     let view = Table::read(table)?;
     let states = StateSet::over(set);
-    check_form(&view, &states, abstraction)?;
+    let table = ReadTable { view };
+    let case = Case {
+        table,
+        set: states,
+        abstraction,
+    };
+    case.check_form()?;
     Ok(states)
 }

@@ -1,11 +1,10 @@
 // A record of a set, held outside of its bytes.
-ghost use Rattle.std.specs.Prelude.{◌≡◌, ℕ, ◌<◌, ◌≤◌, true, set as put, replicate, slice_index_or};
-ghost use Rattle.checker.specs.Held.{entry_of, record_in};
+ghost use Rattle.std.specs.Prelude.{◌≡◌, ◌≤◌, length};
 
 pub const MOST_MACHINES: usize = 6;
 
 // What a record says of one machine.
-#[derive(Clone, Copy)]
+#[derive(Clone, Copy, PartialEq, Eq)]
 pub struct Entry {
     pub local: u8,
     pub code: u64,
@@ -15,53 +14,44 @@ pub struct Entry {
 #[derive(Clone, Copy)]
 pub struct Held {
     pub machines: u8,
-    pub entries: [Entry; 6],
+    // an array with a count: a record is copied for every step that is tried, and nothing may be allocated
+    pub entries: [Entry; MOST_MACHINES],
+    ghost few: { machines ≤ 6 },
+    ghost long: { length entries ≡ 6 },
 }
 
-// The record with every machine in local state 0, with one code.
-pub(crate) fn uniform(machines: u8, number: u64) -> Held
-    requires { machines ≤ 6 }
-    ensures is { record_in result ≡ replicate machines (0, number) }
-    ensures machines { result.machines ≡ machines }
-{
-    Held {
-        machines,
-        entries: [Entry {
-            local: 0,
-            code: number,
-        }; MOST_MACHINES],
+impl Held {
+    ghost use Rattle.std.specs.Prelude.{◌<◌, set as put, replicate, slice_index_or};
+    ghost use Rattle.checker.specs.Held.{entry_of, record_in};
+
+    // The record with every machine in local state 0, with one code.
+    pub(crate) fn uniform(machines: u8, code: u64) -> Held
+        requires { machines ≤ 6 }
+        ensures is { record_in result ≡ replicate machines (0, code) }
+        ensures machines { result.machines ≡ machines }
+    {
+        Held {
+            machines,
+            entries: [Entry { local: 0, code }; MOST_MACHINES],
+        }
     }
-}
 
-// What the record says of machine `i`.
-pub(crate) fn entry_at(held: &Held, i: u8) -> Entry
-    requires few { held.now.machines ≤ 6 }
-    requires below { i < held.now.machines }
-    ensures { entry_of result ≡ slice_index_or (record_in held.now) i (0, 0) }
-{
-    held.entries[i as usize]
-}
+    // What the record says of machine `i`.
+    pub(crate) fn entry(&self, i: u8) -> Entry
+        requires { i < self.now.machines }
+        ensures { entry_of result ≡ slice_index_or (record_in self.now) i (0, 0) }
+    {
+        self.entries[i as usize]
+    }
 
-// The record with what it says of machine `i` replaced.
-pub(crate) fn replaced(held: &Held, i: u8, entry: Entry) -> Held
-    requires few { held.now.machines ≤ 6 }
-    requires below { i < held.now.machines }
-    ensures is { record_in result ≡ put (record_in held.now) i (entry_of entry) }
-    ensures machines { result.machines ≡ held.now.machines }
-{
-    let mut next = *held;
-    next.entries[i as usize] = entry;
-    next
-}
-
-// Whether two records say the same of machine `i`.
-pub(crate) fn same_entry(held: &Held, other: &Held, i: u8) -> bool
-    requires few { held.now.machines ≤ 6 }
-    requires others { other.now.machines ≡ held.now.machines }
-    requires below { i < held.now.machines }
-    ensures { result ≡ true → slice_index_or (record_in held.now) i (0, 0) ≡ slice_index_or (record_in other.now) i (0, 0) }
-{
-    let a = entry_at(held, i);
-    let b = entry_at(other, i);
-    a.local == b.local && a.code == b.code
+    // The record with what it says of machine `i` replaced.
+    pub(crate) fn with(&self, i: u8, entry: Entry) -> Held
+        requires { i < self.now.machines }
+        ensures is { record_in result ≡ put (record_in self.now) i (entry_of entry) }
+        ensures machines { result.machines ≡ self.now.machines }
+    {
+        let mut next = *self;
+        next.entries[i as usize] = entry;
+        next
+    }
 }

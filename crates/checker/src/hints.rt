@@ -9,12 +9,14 @@ const RULES: u16 = 256;
 
 const PATTERNS: u16 = 64;
 
+const SLOTS: usize = RULES as usize * OUTCOMES as usize;
+
 #[derive(Drop)]
 pub(crate) struct Hints {
     // how far from its record each outcome of each rule last led
-    shifts: [u16; 2048],
+    shifts: [u16; SLOTS],
     // the line that last kept each pattern from being met
-    lines: [u16; 64],
+    lines: [u16; PATTERNS as usize],
 }
 
 // Where the hint for an outcome of a rule is kept.
@@ -28,8 +30,8 @@ fn slot(r: u16, c: u64) -> usize
 impl Hints {
     pub(crate) fn none() -> Hints {
         Hints {
-            shifts: [0; 2048],
-            lines: [0; 64],
+            shifts: [0; SLOTS],
+            lines: [0; PATTERNS as usize],
         }
     }
 

@@ -1,6 +1,7 @@
 // The check of a table against a state set, under a queue abstraction.
 #![tactic(auto)]
 
+mod case;
 pub mod check;
 mod form;
 mod held;

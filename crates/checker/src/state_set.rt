@@ -2,16 +2,21 @@
 ghost use Rattle.std.specs.Prelude.{◌≡◌, ℕ, ◌+◌, ◌-◌, ◌*◌, ◌/◌, ◌^◌, ◌<◌, ◌≤◌, length, Decides};
 ghost use Rattle.std.specs.Ordering.{MatchOrdering};
 ghost use Rattle.closed_sets.specs.Records.{code_in};
+ghost use Rattle.table.specs.Bytes.{byte_at};
 ghost use Rattle.checker.specs.Held.{entry_of, record_in};
 ghost use Rattle.checker.specs.Inner.{Found, ListedIn};
 ghost use Rattle.checker.specs.SetFile.{records_n, long_at, record_at, records_of, SetReady, entry_byte, byte_in, byte_of, record_byte, Before, Same};
 
-use crate::held::{Entry, Held, MOST_MACHINES, entry_at};
+use crate::held::{Entry, Held, MOST_MACHINES};
 use std::cmp::Ordering;
 use table::bytes::word;
+use table::header::HEADER_LENGTH;
 
-// The header field that counts the records, and the kind and the number of layers that it names.
+// The header field that counts the records.
 const RECORD_COUNT: usize = 10;
+
+// An entry of a record: its local state in one byte, its code in eight.
+const ENTRY_LENGTH: usize = 9;
 
 #[derive(Clone, Copy)]
 pub struct StateSet<'a> {
@@ -47,39 +52,69 @@ impl<'a> StateSet<'a> {
         ensures is { record_in result ≡ record_at n self.now.bytes.now k }
         ensures machines { result.machines ≡ n }
     {
-        load(self.bytes, n, k)
+        let mut entries = [Entry { local: 0, code: 0 }; MOST_MACHINES];
+        let start = start(n, k);
+        for (i, entry) in entries[..n as usize].iter_mut().enumerate() {
+            *entry = entry_at(self.bytes, start + ENTRY_LENGTH * i);
+        }
+        Held {
+            machines: n,
+            entries,
+        }
     }
 
     // Whether record `k`, which is held, stands above the one before.
     pub(crate) fn stands_above(&self, k: u16, held: &Held) -> bool
-        requires few { held.now.machines ≤ 6 }
         requires some { 0 < k }
         requires long { 16 + 9 * held.now.machines * (k - 1) + 9 * held.now.machines ≤ length self.now.bytes.now }
         requires is { record_in held.now ≡ record_at held.now.machines self.now.bytes.now k }
         ensures { Decides result (Before (9 * held.now.machines) (record_byte held.now.machines self.now.bytes.now (k - 1)) (record_byte held.now.machines self.now.bytes.now k)) }
     {
-        is_above(self.bytes, k, held)
+        compare(self.bytes, k - 1, held).is_lt()
+    }
+
+    // Where the record stands in the set, if it does: first looked for at `near`, then ever farther from there, then by halves.
+    pub(crate) fn find(&self, target: &Held, near: u16) -> Option<u16>
+        requires { SetReady target.now.machines self.now.bytes.now }
+        ensures { Found (records_of target.now.machines self.now.bytes.now) (record_in target.now) result }
+    {
+        // std's binary searches begin in the middle, and want a slice of values: most steps lead near where they led before
+        let mut low = 0;
+        let mut high = self.record_count();
+        let mut middle = within(near, high);
+        let mut reach = 1;
+        while low < high {
+            let step = reach;
+            reach = farther(reach);
+            match compare(self.bytes, middle, target) {
+                Ordering::Less => {
+                    low = middle + 1;
+                    middle = upwards(low, high, step);
+                }
+                Ordering::Equal => return Some(middle),
+                Ordering::Greater => {
+                    high = middle;
+                    middle = downwards(low, high, step);
+                }
+            }
+        }
+        None
     }
 
     // Whether the record stands in the set.
     pub(crate) fn contains(&self, target: &Held) -> bool
-        requires few { target.now.machines ≤ 6 }
-        requires sized { length (record_in target.now) ≡ target.now.machines }
-        requires ready { SetReady target.now.machines self.now.bytes.now }
+        requires { SetReady target.now.machines self.now.bytes.now }
         ensures { Decides result (ListedIn (records_of target.now.machines self.now.bytes.now) (record_in target.now)) }
     {
-        listed(self.bytes, target)
+        self.find(target, 0).is_some()
     }
+}
 
-    // Where the record stands in the set, if it does; `near` is where it is looked for first.
-    pub(crate) fn find(&self, target: &Held, near: u16) -> Option<u16>
-        requires few { target.now.machines ≤ 6 }
-        requires sized { length (record_in target.now) ≡ target.now.machines }
-        requires ready { SetReady target.now.machines self.now.bytes.now }
-        ensures { Found (records_of target.now.machines self.now.bytes.now) (record_in target.now) result }
-    {
-        place(self.bytes, target, near)
-    }
+// Where record `k` of a set for `n` machines begins.
+fn start(n: u8, k: u16) -> usize
+    ensures { result ≡ 16 + 9 * n * k }
+{
+    HEADER_LENGTH + ENTRY_LENGTH * n as usize * k as usize
 }
 
 // The eight bytes at `at`, the low byte first.
@@ -87,96 +122,46 @@ fn long(bytes: &[u8], at: usize) -> u64
     requires { at + 7 < length bytes.now }
     ensures { result ≡ long_at bytes.now at }
 {
-    u64::from_le_bytes([
-        bytes[at],
-        bytes[at + 1],
-        bytes[at + 2],
-        bytes[at + 3],
-        bytes[at + 4],
-        bytes[at + 5],
-        bytes[at + 6],
-        bytes[at + 7],
-    ])
+    // a slice of eight, whose length is not tested: `first_chunk` of the rest tests it at each entry compared
+    u64::from_le_bytes(*bytes[at..at + 8].as_array().unwrap())
 }
 
-fn load(set: &[u8], n: u8, k: u16) -> Held
-    requires few { n ≤ 6 }
-    requires long { 16 + 9 * n * k + 9 * n ≤ length set.now }
-    ensures is { record_in result ≡ record_at n set.now k }
-    ensures machines { result.machines ≡ n }
+// The entry at `at`.
+fn entry_at(bytes: &[u8], at: usize) -> Entry
+    requires { at + 8 < length bytes.now }
+    ensures { entry_of result ≡ (byte_at bytes.now at, long_at bytes.now (at + 1)) }
 {
-    let mut held = Held {
-        machines: n,
-        entries: [Entry { local: 0, code: 0 }; MOST_MACHINES],
-    };
-    let start = 16 + 9 * n as usize * k as usize;
-    for i in 0..n as usize {
-        held.entries[i] = Entry {
-            local: set[start + 9 * i],
-            code: long(set, start + 9 * i + 1),
-        };
+    Entry {
+        local: bytes[at],
+        code: long(bytes, at + 1),
     }
-    held
 }
 
-// A byte of a local state and a code.
-fn byte_in(local: u8, number: u64, place: u16) -> u8
-    requires { place < 9 }
-    ensures is { result ≡ byte_in (local, number) place }
-    ensures small { number < 2 ^ 64 }
-{
-    if place == 0 {
-        return local;
-    }
-    ((number >> (8 * (place - 1))) % 256) as u8
-}
-
-// Byte `t` of a record.
-fn byte_of(target: &Held, t: u16) -> u8
-    requires few { target.now.machines ≤ 6 }
-    requires below { t < 9 * target.now.machines }
-    ensures is { result ≡ byte_of (record_in target.now) t }
-    ensures small { code_in (record_in target.now) (t / 9) < 2 ^ 64 }
-{
-    let entry = entry_at(target, (t / 9) as u8);
-    byte_in(entry.local, entry.code, t % 9)
-}
-
-// How the nine bytes at `at` compare with a local state and a code, as byte strings.
+// How the entry at `at` compares with another, as byte strings.
+// No method: that a byte is below 256 is known of a slice that is passed, and not of one in a struct.
 fn compare_entry(set: &[u8], at: usize, entry: Entry) -> Ordering
     requires { at + 8 < length set.now }
     ensures { MatchOrdering result (Before 9 (entry_byte set.now at) (byte_in (entry_of entry))) (Same 9 (entry_byte set.now at) (byte_in (entry_of entry)) × (entry.code < 2 ^ 64)) (Before 9 (byte_in (entry_of entry)) (entry_byte set.now at)) }
 {
-    if set[at] < entry.local {
-        return Ordering::Less;
-    }
-    if set[at] > entry.local {
-        return Ordering::Greater;
-    }
-    let number = long(set, at + 1);
-    if number == entry.code {
-        return Ordering::Equal;
-    }
-    // the low byte of a code comes first
-    if number.swap_bytes() < entry.code.swap_bytes() {
-        Ordering::Less
-    } else {
-        Ordering::Greater
+    match set[at].cmp(&entry.local) {
+        // the low byte of a code comes first
+        Ordering::Equal => long(set, at + 1).swap_bytes().cmp(&entry.code.swap_bytes()),
+        apart => apart,
     }
 }
 
-// How record `k` of the set compares with another, as byte strings.
+// How record `k` of the set compares with another, as byte strings; a record that is the other has its bytes.
 fn compare(set: &[u8], k: u16, target: &Held) -> Ordering
-    requires few { target.now.machines ≤ 6 }
-    requires long { 16 + 9 * target.now.machines * k + 9 * target.now.machines ≤ length set.now }
-    ensures { MatchOrdering result (Before (9 * target.now.machines) (record_byte target.now.machines set.now k) (byte_of (record_in target.now))) (Same (9 * target.now.machines) (record_byte target.now.machines set.now k) (byte_of (record_in target.now)) × ((t : ℕ) → t < 9 * target.now.machines → code_in (record_in target.now) (t / 9) < 2 ^ 64)) (Before (9 * target.now.machines) (byte_of (record_in target.now)) (record_byte target.now.machines set.now k)) }
+    requires { 16 + 9 * target.now.machines * k + 9 * target.now.machines ≤ length set.now }
+    ensures order { MatchOrdering result (Before (9 * target.now.machines) (record_byte target.now.machines set.now k) (byte_of (record_in target.now))) (Same (9 * target.now.machines) (record_byte target.now.machines set.now k) (byte_of (record_in target.now)) × ((t : ℕ) → t < 9 * target.now.machines → code_in (record_in target.now) (t / 9) < 2 ^ 64)) (Before (9 * target.now.machines) (byte_of (record_in target.now)) (record_byte target.now.machines set.now k)) }
+    ensures alike { (j : ℕ) → record_at target.now.machines set.now j ≡ record_in target.now → Same (9 * target.now.machines) (record_byte target.now.machines set.now j) (byte_of (record_in target.now)) }
 {
-    let start = 16 + 9 * target.machines as usize * k as usize;
+    let start = start(target.machines, k);
+    // by number, which also says where in the set the entry stands
     for i in 0..target.machines {
-        match compare_entry(set, start + 9 * i as usize, entry_at(target, i)) {
-            Ordering::Less => return Ordering::Less,
-            Ordering::Greater => return Ordering::Greater,
+        match compare_entry(set, start + ENTRY_LENGTH * i as usize, target.entry(i)) {
             Ordering::Equal => {}
+            apart => return apart,
         }
     }
     Ordering::Equal
@@ -215,58 +200,4 @@ fn downwards(low: u16, high: u16, reach: u16) -> u16
     ensures within { low < high → result < high }
 {
     high - reach.min(high - low - (high - low) / 2)
-}
-
-// Where the record stands in the set: first looked for at `near`, then ever farther from there, then by halves.
-fn place(set: &[u8], target: &Held, near: u16) -> Option<u16>
-    requires few { target.now.machines ≤ 6 }
-    requires sized { length (record_in target.now) ≡ target.now.machines }
-    requires ready { SetReady target.now.machines set.now }
-    ensures { Found (records_of target.now.machines set.now) (record_in target.now) result }
-{
-    let mut low = 0;
-    let mut high = word(set, RECORD_COUNT);
-    let mut middle = within(near, high);
-    let mut reach = 1;
-    while low < high {
-        let step = reach;
-        reach = farther(reach);
-        match compare(set, middle, target) {
-            Ordering::Less => {
-                low = middle + 1;
-                middle = upwards(low, high, step);
-            }
-            Ordering::Equal => return Some(middle),
-            Ordering::Greater => {
-                high = middle;
-                middle = downwards(low, high, step);
-            }
-        }
-    }
-    None
-}
-
-// Whether the record stands in the set.
-fn listed(set: &[u8], target: &Held) -> bool
-    requires few { target.now.machines ≤ 6 }
-    requires sized { length (record_in target.now) ≡ target.now.machines }
-    requires ready { SetReady target.now.machines set.now }
-    ensures { Decides result (ListedIn (records_of target.now.machines set.now) (record_in target.now)) }
-{
-    place(set, target, 0).is_some()
-}
-
-// Whether the record stands above the one before.
-fn is_above(set: &[u8], k: u16, held: &Held) -> bool
-    requires few { held.now.machines ≤ 6 }
-    requires some { 0 < k }
-    requires long { 16 + 9 * held.now.machines * (k - 1) + 9 * held.now.machines ≤ length set.now }
-    requires is { record_in held.now ≡ record_at held.now.machines set.now k }
-    ensures { Decides result (Before (9 * held.now.machines) (record_byte held.now.machines set.now (k - 1)) (record_byte held.now.machines set.now k)) }
-{
-    match compare(set, k - 1, held) {
-        Ordering::Less => true,
-        Ordering::Equal => false,
-        Ordering::Greater => false,
-    }
 }

@@ -1,362 +1,215 @@
 // Whether a record lets a rule lead outside the set.
-ghost use Rattle.std.specs.Prelude.{◌≡◌, ℕ, ◌<◌, ◌≤◌, true, List, length, Some};
+ghost use Rattle.std.specs.Prelude.{◌≡◌, ℕ, ◌<◌, true, List, length, Some};
 ghost use Rattle.std.specs.List.{slice_get};
 ghost use Rattle.model.specs.declared.rule.Action.TheVariants.{Local, Take, Send};
 ghost use Rattle.model.specs.Order.{each, one, Nothing};
 ghost use Rattle.model.specs.System.{rule_of};
 ghost use Rattle.table.specs.SystemOf.{system_of};
-ghost use Rattle.checker.specs.Plan.{Planned};
 ghost use Rattle.table.specs.Layout.{machines_n, events_n, rules_n};
 ghost use Rattle.closed_sets.specs.Records.{record_of, code_in};
-ghost use Rattle.closed_sets.specs.Judging.{Judged, Applies, outside, outcomes_of, steps};
+ghost use Rattle.closed_sets.specs.Judging.{Applies, outside, outcomes_of, steps};
 ghost use Rattle.closed_sets.specs.Codes.{moved_in};
+ghost use Rattle.checker.specs.Case.{claim_at, table_at, set_at, IsSound, Finds};
 ghost use Rattle.checker.specs.Held.{record_in};
-ghost use Rattle.checker.specs.Inner.{Judging, Enabled, Inside};
-ghost use Rattle.checker.specs.Ready.{Ready};
-ghost use Rattle.checker.specs.SetFile.{claim_of, SetReady, records_of};
+ghost use Rattle.checker.specs.Inner.{Enabled, Inside};
+ghost use Rattle.checker.specs.SetFile.{records_of};
 
-use crate::held::{Entry, Held, entry_at, replaced};
+use crate::case::Judgement;
+use crate::held::{Entry, Held};
 use crate::hints::Hints;
-use crate::parts::events;
-use crate::plan::Plan;
-use crate::state_set::StateSet;
 use abstraction::QueueAbstraction;
+use abstraction::removals::each_removal;
 use model::fault::{Fault, Refusal};
 use model::rule::{Action, Rule};
-use table::view::Table;
 
-// Whether the record that outcome `c` of rule `r` leads to stands in the set.
-fn inside(
-    set: &StateSet<'_>,
-    hints: &mut Hints,
-    k: u16,
+// A rule of the table, by its number.
+#[derive(Clone, Copy)]
+struct Numbered {
     r: u16,
-    c: u64,
-    target: &Held,
-) -> Result<(), Fault>
-    requires few { target.now.machines ≤ 6 }
-    requires sized { length (record_in target.now) ≡ target.now.machines }
-    requires ready { SetReady target.now.machines set.now.bytes.now }
-    ensures { Inside (records_of target.now.machines set.now.bytes.now) (record_in target.now) k r c result }
-{
-    match set.find(target, hints.place(k, r, c)) {
-        Some(place) => {
-            hints.found(k, r, c, place);
-            Ok(())
+    rule: Rule,
+}
+
+impl<A: QueueAbstraction> Judgement<'_, '_, A> {
+    // Whether the record that outcome `c` of rule `r` leads to stands in the set.
+    fn inside(&self, hints: &mut Hints, r: u16, c: u64, target: &Held) -> Result<(), Fault>
+        requires { target.now.machines ≡ machines_n (table_at self.now) }
+        ensures { Inside (records_of (machines_n (table_at self.now)) (set_at self.now)) (record_in target.now) self.now.k r c result }
+    {
+        match self.judge.case.set.find(target, hints.place(self.k, r, c)) {
+            Some(place) => {
+                hints.found(self.k, r, c, place);
+                Ok(())
+            }
+            None => Err(Fault {
+                number: Refusal::StepOutside,
+                a: self.k as u32,
+                b: r,
+                c,
+            }),
         }
-        None => Err(Fault {
-            number: Refusal::StepOutside,
-            a: k as u32,
-            b: r,
-            c,
-        }),
     }
-}
 
-// The record that the rule leads to, with that code of its own queue.
-fn moved<A: QueueAbstraction>(
-    table: &Table<'_>,
-    set: &StateSet<'_>,
-    abstraction: &A,
-    k: u16,
-    held: &Held,
-    mover: Rule,
-    number: u64,
-) -> Held
-    requires ready { Ready table.now.bytes.now }
-    requires judging { Judging (claim_of table.now.bytes.now set.now.bytes.now (A.bits abstraction.now) (A.code abstraction.now) (A.removals abstraction.now)) (machines_n table.now.bytes.now) k held.now }
-    requires below { mover.machine < machines_n table.now.bytes.now }
-    ensures is { record_in result ≡ moved_in mover number (record_of (claim_of table.now.bytes.now set.now.bytes.now (A.bits abstraction.now) (A.code abstraction.now) (A.removals abstraction.now)) k) }
-    ensures machines { result.machines ≡ machines_n table.now.bytes.now }
-    ensures sized { length (record_in result) ≡ machines_n table.now.bytes.now }
-{
-    replaced(
-        held,
-        mover.machine,
-        Entry {
-            local: mover.to,
-            code: number,
-        },
-    )
-}
-
-// A local move leads to a record of the set.
-fn check_local<A: QueueAbstraction>(
-    table: &Table<'_>,
-    set: &StateSet<'_>,
-    abstraction: &A,
-    hints: &mut Hints,
-    k: u16,
-    held: &Held,
-    r: u16,
-    mover: Rule,
-) -> Result<(), Fault>
-    requires ready { Ready table.now.bytes.now }
-    requires rising { SetReady (machines_n table.now.bytes.now) set.now.bytes.now }
-    requires judging { Judging (claim_of table.now.bytes.now set.now.bytes.now (A.bits abstraction.now) (A.code abstraction.now) (A.removals abstraction.now)) (machines_n table.now.bytes.now) k held.now }
-    requires enabled { Enabled (claim_of table.now.bytes.now set.now.bytes.now (A.bits abstraction.now) (A.code abstraction.now) (A.removals abstraction.now)) k r mover Local }
-    requires below { mover.machine < machines_n table.now.bytes.now }
-    ensures { Judged (claim_of table.now.bytes.now set.now.bytes.now (A.bits abstraction.now) (A.code abstraction.now) (A.removals abstraction.now)) (one (outside k r 0)) result }
-{
-    let own = entry_at(held, mover.machine);
-    inside(
-        set,
-        hints,
-        k,
-        r,
-        0,
-        &moved(table, set, abstraction, k, held, mover, own.code),
-    )
-}
-
-// Removal `c` of a take leads to a record of the set, if it takes the rule's event.
-fn take_inside<A: QueueAbstraction>(
-    table: &Table<'_>,
-    set: &StateSet<'_>,
-    abstraction: &A,
-    hints: &mut Hints,
-    k: u16,
-    held: &Held,
-    r: u16,
-    taker: Rule,
-    event: u8,
-    c: u64,
-    taken: u8,
-    left: u64,
-) -> Result<(), Fault>
-    requires ready { Ready table.now.bytes.now }
-    requires rising { SetReady (machines_n table.now.bytes.now) set.now.bytes.now }
-    requires judging { Judging (claim_of table.now.bytes.now set.now.bytes.now (A.bits abstraction.now) (A.code abstraction.now) (A.removals abstraction.now)) (machines_n table.now.bytes.now) k held.now }
-    requires enabled { Enabled (claim_of table.now.bytes.now set.now.bytes.now (A.bits abstraction.now) (A.code abstraction.now) (A.removals abstraction.now)) k r taker (Take event) }
-    requires below { taker.machine < machines_n table.now.bytes.now }
-    requires removal { slice_get (A.removals abstraction.now (events_n table.now.bytes.now) (code_in (record_of (claim_of table.now.bytes.now set.now.bytes.now (A.bits abstraction.now) (A.code abstraction.now) (A.removals abstraction.now)) k) taker.machine)) c ≡ Some (taken, left) }
-    ensures { Judged (claim_of table.now.bytes.now set.now.bytes.now (A.bits abstraction.now) (A.code abstraction.now) (A.removals abstraction.now)) (one (outside k r c)) result }
-{
-    if taken != event {
-        return Ok(());
+    // The record that a rule leads to, with that code of its own queue.
+    fn moved(&self, mover: Rule, code: u64) -> Held
+        requires sound { IsSound A.QueueAbstraction self.now }
+        requires below { mover.machine < machines_n (table_at self.now) }
+        ensures is { record_in result ≡ moved_in mover code (record_of (claim_at A.QueueAbstraction self.now) self.now.k) }
+        ensures machines { result.machines ≡ machines_n (table_at self.now) }
+    {
+        self.held.with(
+            mover.machine,
+            Entry {
+                local: mover.to,
+                code,
+            },
+        )
     }
-    inside(
-        set,
-        hints,
-        k,
-        r,
-        c,
-        &moved(table, set, abstraction, k, held, taker, left),
-    )
-}
 
-// The first removal by which a take leads outside.
-fn check_take<A: QueueAbstraction>(
-    table: &Table<'_>,
-    set: &StateSet<'_>,
-    abstraction: &A,
-    hints: &mut Hints,
-    k: u16,
-    held: &Held,
-    r: u16,
-    taker: Rule,
-    event: u8,
-) -> Result<(), Fault>
-    requires ready { Ready table.now.bytes.now }
-    requires rising { SetReady (machines_n table.now.bytes.now) set.now.bytes.now }
-    requires judging { Judging (claim_of table.now.bytes.now set.now.bytes.now (A.bits abstraction.now) (A.code abstraction.now) (A.removals abstraction.now)) (machines_n table.now.bytes.now) k held.now }
-    requires enabled { Enabled (claim_of table.now.bytes.now set.now.bytes.now (A.bits abstraction.now) (A.code abstraction.now) (A.removals abstraction.now)) k r taker (Take event) }
-    requires below { taker.machine < machines_n table.now.bytes.now }
-    ensures { Judged (claim_of table.now.bytes.now set.now.bytes.now (A.bits abstraction.now) (A.code abstraction.now) (A.removals abstraction.now)) (each (length (A.removals abstraction.now (events_n table.now.bytes.now) (code_in (record_of (claim_of table.now.bytes.now set.now.bytes.now (A.bits abstraction.now) (A.code abstraction.now) (A.removals abstraction.now)) k) taker.machine))) (λ c. one (outside k r c))) result }
-{
-    let m = events(table);
-    let own = entry_at(held, taker.machine);
-    let mut c = 0;
-    while let Some((taken, left)) = abstraction.removal(m, own.code, c) {
-        take_inside(
-            table,
-            set,
-            abstraction,
-            hints,
-            k,
-            held,
-            r,
-            taker,
-            event,
-            c,
-            taken,
-            left,
-        )?;
-        c += 1;
+    // A local move leads to a record of the set.
+    fn check_local(&self, hints: &mut Hints, mover: Numbered) -> Result<(), Fault>
+        requires sound { IsSound A.QueueAbstraction self.now }
+        requires enabled { Enabled (claim_at A.QueueAbstraction self.now) self.now.k mover.r mover.rule Local }
+        requires below { mover.rule.machine < machines_n (table_at self.now) }
+        ensures { Finds A.QueueAbstraction self.now (one (outside self.now.k mover.r 0)) result }
+    {
+        let own = self.held.entry(mover.rule.machine);
+        self.inside(hints, mover.r, 0, &self.moved(mover.rule, own.code))
     }
-    Ok(())
-}
 
-// A send leads to a record of the set.
-fn check_send<A: QueueAbstraction>(
-    table: &Table<'_>,
-    set: &StateSet<'_>,
-    abstraction: &A,
-    hints: &mut Hints,
-    k: u16,
-    held: &Held,
-    r: u16,
-    sender: Rule,
-    event: u8,
-    target: u8,
-) -> Result<(), Fault>
-    requires ready { Ready table.now.bytes.now }
-    requires rising { SetReady (machines_n table.now.bytes.now) set.now.bytes.now }
-    requires judging { Judging (claim_of table.now.bytes.now set.now.bytes.now (A.bits abstraction.now) (A.code abstraction.now) (A.removals abstraction.now)) (machines_n table.now.bytes.now) k held.now }
-    requires enabled { Enabled (claim_of table.now.bytes.now set.now.bytes.now (A.bits abstraction.now) (A.code abstraction.now) (A.removals abstraction.now)) k r sender (Send event target) }
-    requires below { sender.machine < machines_n table.now.bytes.now }
-    requires there { target < machines_n table.now.bytes.now }
-    requires named { event < events_n table.now.bytes.now }
-    ensures { Judged (claim_of table.now.bytes.now set.now.bytes.now (A.bits abstraction.now) (A.code abstraction.now) (A.removals abstraction.now)) (one (outside k r 0)) result }
-{
-    let own = entry_at(held, sender.machine);
-    let there = entry_at(held, target);
-    let Some(longer) = abstraction.append(events(table), there.code, event) else {
-        return Ok(());
-    };
-    let next = moved(table, set, abstraction, k, held, sender, own.code);
-    let local = entry_at(&next, target).local;
-    inside(
-        set,
-        hints,
-        k,
-        r,
-        0,
-        &replaced(
-            &next,
+    // Removal `c` of a take leads to a record of the set, if it takes the rule's event.
+    fn take_inside(
+        &self,
+        hints: &mut Hints,
+        taker: Numbered,
+        event: u8,
+        c: u64,
+        removal: (u8, u64),
+    ) -> Result<(), Fault>
+        requires sound { IsSound A.QueueAbstraction self.now }
+        requires enabled { Enabled (claim_at A.QueueAbstraction self.now) self.now.k taker.r taker.rule (Take event) }
+        requires below { taker.rule.machine < machines_n (table_at self.now) }
+        requires removal { slice_get (A.removals self.now.judge.now.case.now.abstraction.now (events_n (table_at self.now)) (code_in (record_of (claim_at A.QueueAbstraction self.now) self.now.k) taker.rule.machine)) c ≡ Some removal }
+        ensures { Finds A.QueueAbstraction self.now (one (outside self.now.k taker.r c)) result }
+    {
+        let (taken, left) = removal;
+        if taken != event {
+            return Ok(());
+        }
+        self.inside(hints, taker.r, c, &self.moved(taker.rule, left))
+    }
+
+    // The first removal by which a take leads outside.
+    fn check_take(&self, hints: &mut Hints, taker: Numbered, event: u8) -> Result<(), Fault>
+        requires sound { IsSound A.QueueAbstraction self.now }
+        requires enabled { Enabled (claim_at A.QueueAbstraction self.now) self.now.k taker.r taker.rule (Take event) }
+        requires below { taker.rule.machine < machines_n (table_at self.now) }
+        ensures { Finds A.QueueAbstraction self.now (each (length (A.removals self.now.judge.now.case.now.abstraction.now (events_n (table_at self.now)) (code_in (record_of (claim_at A.QueueAbstraction self.now) self.now.k) taker.rule.machine))) (λ c. one (outside self.now.k taker.r c))) result }
+    {
+        let case = self.judge.case;
+        let m = case.table.events();
+        let own = self.held.entry(taker.rule.machine);
+        for (c, removal) in each_removal(case.abstraction, m, own.code).enumerate() {
+            self.take_inside(hints, taker, event, c as u64, removal)?;
+        }
+        Ok(())
+    }
+
+    // A send leads to a record of the set.
+    fn check_send(
+        &self,
+        hints: &mut Hints,
+        sender: Numbered,
+        event: u8,
+        target: u8,
+    ) -> Result<(), Fault>
+        requires sound { IsSound A.QueueAbstraction self.now }
+        requires enabled { Enabled (claim_at A.QueueAbstraction self.now) self.now.k sender.r sender.rule (Send event target) }
+        requires below { sender.rule.machine < machines_n (table_at self.now) }
+        requires there { target < machines_n (table_at self.now) }
+        requires named { event < events_n (table_at self.now) }
+        ensures { Finds A.QueueAbstraction self.now (one (outside self.now.k sender.r 0)) result }
+    {
+        let case = self.judge.case;
+        let own = self.held.entry(sender.rule.machine);
+        let there = self.held.entry(target);
+        let Some(longer) = case
+            .abstraction
+            .append(case.table.events(), there.code, event)
+        else {
+            return Ok(());
+        };
+        let next = self.moved(sender.rule, own.code);
+        let local = next.entry(target).local;
+        let sent = next.with(
             target,
             Entry {
                 local,
                 code: longer,
             },
-        ),
-    )
-}
-
-// The first outcome by which rule `r` leads outside.
-fn check_rule<A: QueueAbstraction>(
-    table: &Table<'_>,
-    set: &StateSet<'_>,
-    abstraction: &A,
-    plan: &Plan,
-    hints: &mut Hints,
-    k: u16,
-    held: &Held,
-    r: u16,
-) -> Result<(), Fault>
-    requires ready { Ready table.now.bytes.now }
-    requires rising { SetReady (machines_n table.now.bytes.now) set.now.bytes.now }
-    requires planned { Planned table.now.bytes.now plan.now }
-    requires judging { Judging (claim_of table.now.bytes.now set.now.bytes.now (A.bits abstraction.now) (A.code abstraction.now) (A.removals abstraction.now)) (machines_n table.now.bytes.now) k held.now }
-    requires below { r < rules_n table.now.bytes.now }
-    ensures { Judged (claim_of table.now.bytes.now set.now.bytes.now (A.bits abstraction.now) (A.code abstraction.now) (A.removals abstraction.now)) (outcomes_of (claim_of table.now.bytes.now set.now.bytes.now (A.bits abstraction.now) (A.code abstraction.now) (A.removals abstraction.now)) k r) result }
-{
-    let stepper = plan.rule(r);
-    let own = entry_at(held, stepper.machine);
-    if own.local != stepper.from {
-        return Ok(());
+        );
+        self.inside(hints, sender.r, 0, &sent)
     }
-    match stepper.action {
-        Action::Local => check_local(table, set, abstraction, hints, k, held, r, stepper),
-        Action::Take { event } => check_take(
-            table,
-            set,
-            abstraction,
-            hints,
-            k,
-            held,
-            r,
-            stepper,
-            event,
-        ),
-        Action::Send { event, target } => check_send(
-            table,
-            set,
-            abstraction,
-            hints,
-            k,
-            held,
-            r,
-            stepper,
-            event,
-            target,
-        ),
-    }
-}
 
-// Whether every rule of machine `i` leads to records of the set.
-fn machine_inside<A: QueueAbstraction>(
-    table: &Table<'_>,
-    set: &StateSet<'_>,
-    abstraction: &A,
-    plan: &Plan,
-    hints: &mut Hints,
-    k: u16,
-    held: &Held,
-    i: u8,
-) -> bool
-    requires ready { Ready table.now.bytes.now }
-    requires rising { SetReady (machines_n table.now.bytes.now) set.now.bytes.now }
-    requires planned { Planned table.now.bytes.now plan.now }
-    requires judging { Judging (claim_of table.now.bytes.now set.now.bytes.now (A.bits abstraction.now) (A.code abstraction.now) (A.removals abstraction.now)) (machines_n table.now.bytes.now) k held.now }
-    requires below { i < machines_n table.now.bytes.now }
-    ensures { result ≡ true → (r : ℕ) → r < rules_n table.now.bytes.now → (rule_of (system_of table.now.bytes.now) r).machine ≡ i → Nothing (Applies (claim_of table.now.bytes.now set.now.bytes.now (A.bits abstraction.now) (A.code abstraction.now) (A.removals abstraction.now))) (outcomes_of (claim_of table.now.bytes.now set.now.bytes.now (A.bits abstraction.now) (A.code abstraction.now) (A.removals abstraction.now)) k r) }
-{
-    let mut r = plan.first(i, entry_at(held, i).local);
-    while r < plan.rule_count() {
-        match check_rule(table, set, abstraction, plan, hints, k, held, r) {
-            Ok(()) => r = plan.after(r),
-            Err(_) => return false,
+    // The first outcome by which rule `r` leads outside.
+    fn check_rule(&self, hints: &mut Hints, r: u16) -> Result<(), Fault>
+        requires sound { IsSound A.QueueAbstraction self.now }
+        requires below { r < rules_n (table_at self.now) }
+        ensures { Finds A.QueueAbstraction self.now (outcomes_of (claim_at A.QueueAbstraction self.now) self.now.k r) result }
+    {
+        let rule = self.judge.plan.rule(r);
+        let own = self.held.entry(rule.machine);
+        if own.local != rule.from {
+            return Ok(());
+        }
+        let stepper = Numbered { r, rule };
+        match rule.action {
+            Action::Local => self.check_local(hints, stepper),
+            Action::Take { event } => self.check_take(hints, stepper, event),
+            Action::Send { event, target } => self.check_send(hints, stepper, event, target),
         }
     }
-    true
-}
 
-// Whether every rule leads to records of the set, in any order.
-fn all_inside<A: QueueAbstraction>(
-    table: &Table<'_>,
-    set: &StateSet<'_>,
-    abstraction: &A,
-    plan: &Plan,
-    hints: &mut Hints,
-    k: u16,
-    held: &Held,
-) -> bool
-    requires ready { Ready table.now.bytes.now }
-    requires rising { SetReady (machines_n table.now.bytes.now) set.now.bytes.now }
-    requires planned { Planned table.now.bytes.now plan.now }
-    requires judging { Judging (claim_of table.now.bytes.now set.now.bytes.now (A.bits abstraction.now) (A.code abstraction.now) (A.removals abstraction.now)) (machines_n table.now.bytes.now) k held.now }
-    ensures { result ≡ true → Nothing (Applies (claim_of table.now.bytes.now set.now.bytes.now (A.bits abstraction.now) (A.code abstraction.now) (A.removals abstraction.now))) (steps (claim_of table.now.bytes.now set.now.bytes.now (A.bits abstraction.now) (A.code abstraction.now) (A.removals abstraction.now)) k) }
-{
-    for i in 0..held.machines {
-        if !machine_inside(table, set, abstraction, plan, hints, k, held, i) {
-            return false;
+    // Whether every rule of machine `i` leads to records of the set.
+    fn machine_inside(&self, hints: &mut Hints, i: u8) -> bool
+        requires sound { IsSound A.QueueAbstraction self.now }
+        requires below { i < machines_n (table_at self.now) }
+        ensures { result ≡ true → (r : ℕ) → r < rules_n (table_at self.now) → (rule_of (system_of (table_at self.now)) r).machine ≡ i → Nothing (Applies (claim_at A.QueueAbstraction self.now)) (outcomes_of (claim_at A.QueueAbstraction self.now) self.now.k r) }
+    {
+        let plan = &self.judge.plan;
+        let mut next = plan.first(i, self.held.entry(i).local);
+        while let Some(r) = next {
+            if self.check_rule(hints, r).is_err() {
+                return false;
+            }
+            next = plan.after(r);
         }
+        true
     }
-    true
-}
 
-// The first rule that leads outside.
-pub(crate) fn check_steps<A: QueueAbstraction>(
-    table: &Table<'_>,
-    set: &StateSet<'_>,
-    abstraction: &A,
-    plan: &Plan,
-    hints: &mut Hints,
-    k: u16,
-    held: &Held,
-) -> Result<(), Fault>
-    requires ready { Ready table.now.bytes.now }
-    requires rising { SetReady (machines_n table.now.bytes.now) set.now.bytes.now }
-    requires planned { Planned table.now.bytes.now plan.now }
-    requires judging { Judging (claim_of table.now.bytes.now set.now.bytes.now (A.bits abstraction.now) (A.code abstraction.now) (A.removals abstraction.now)) (machines_n table.now.bytes.now) k held.now }
-    ensures { Judged (claim_of table.now.bytes.now set.now.bytes.now (A.bits abstraction.now) (A.code abstraction.now) (A.removals abstraction.now)) (steps (claim_of table.now.bytes.now set.now.bytes.now (A.bits abstraction.now) (A.code abstraction.now) (A.removals abstraction.now)) k) result }
-{
-    if all_inside(table, set, abstraction, plan, hints, k, held) {
-        return Ok(());
+    // Whether every rule leads to records of the set, in any order.
+    fn all_inside(&self, hints: &mut Hints) -> bool
+        requires { IsSound A.QueueAbstraction self.now }
+        ensures { result ≡ true → Nothing (Applies (claim_at A.QueueAbstraction self.now)) (steps (claim_at A.QueueAbstraction self.now) self.now.k) }
+    {
+        for i in 0..self.held.machines {
+            if !self.machine_inside(hints, i) {
+                return false;
+            }
+        }
+        true
     }
-    for r in 0..table.rule_count() {
-        check_rule(table, set, abstraction, plan, hints, k, held, r)?;
+
+    // The first rule that leads outside.
+    pub(crate) fn check_steps(&self, hints: &mut Hints) -> Result<(), Fault>
+        requires { IsSound A.QueueAbstraction self.now }
+        ensures { Finds A.QueueAbstraction self.now (steps (claim_at A.QueueAbstraction self.now) self.now.k) result }
+    {
+        if self.all_inside(hints) {
+            return Ok(());
+        }
+        for r in 0..self.judge.case.table.view.rule_count() {
+            self.check_rule(hints, r)?;
+        }
+        Ok(())
     }
-    Ok(())
 }

@@ -22,11 +22,6 @@ returns-in_err-view g c =
     let b = answered_first (Applies bs s T) (numbers bs) (table_order bs) (set_order s T) f (answered_under (Applies bs s T) (numbers bs) in_table (reading.order bs) (Err f) c.in_err-view.ensures.verdict) in
     rw (e.1, e.2) (fails bs s T f b, b)
 
-pub check_set-requires : goal.check_set-requires
-check_set-requires g c =
-    let v = c.in_ok-view.ensures.verdict in
-    record { ready = subst Ready (sym v.0) (reads_ready c.args.table.now v.1) }
-
 pub returns-in_err-check_set : goal.returns-in_err-check_set
 returns-in_err-check_set g c =
     let q = g.A.QueueAbstraction in

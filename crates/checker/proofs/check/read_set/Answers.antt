@@ -21,11 +21,6 @@ returns-in_err-view g c =
     let b = answered_first (Applies bs s T) (numbers bs) (table_order bs) (form_order s) f (answered_under (Applies bs s T) (numbers bs) in_table (reading.order bs) (Err f) c.in_err-view.ensures.verdict) in
     rw (e.1, e.2) (form_fails bs s T f b, b)
 
-pub check_form-requires : goal.check_form-requires
-check_form-requires g c =
-    let v = c.in_ok-view.ensures.verdict in
-    record { ready = subst Ready (sym v.0) (reads_ready c.args.table.now v.1) }
-
 pub returns-in_err-check_form : goal.returns-in_err-check_form
 returns-in_err-check_form g c =
     let q = g.A.QueueAbstraction in

@@ -1,34 +1,30 @@
-use Rattle.std.proofs.Common.{◌≡◌, ℕ, ◌+◌, ◌*◌, ◌/◌, ◌^◌, ◌<◌, get_or, sym, ap, ◌∙◌, subst, inl, inr, arith}
+use Rattle.std.proofs.Common.{◌≡◌, ℕ, ◌+◌, ◌*◌, ◌/◌, ◌^◌, ◌<◌, subst, inl, inr, arith}
 use Rattle.std.proofs.lemmas.Bool.{cases_lt}
-use Rattle.checker.proofs.Ordered.{byte_of_lem, before_on, same_on, same_sym}
+use Rattle.checker.proofs.Ordered.{apart, entry_there, entry_here, before_on, same_on, same_sym, same_bytes}
 use Rattle.checker.specs.Held.{entry_of, record_in}
 use Rattle.checker.specs.SetFile.{record_byte, entry_byte, byte_in, byte_of}
 use Rattle.closed_sets.specs.Records.{code_in}
 use Rattle.checker.proofs.state_set.compare.Goals as goal
 
-pub returns-in-Less : goal.returns-in-Less
-returns-in-Less c =
+pub returns-in_default : goal.returns-in_default
+returns-in_default c =
     let n = c.args.target.now.machines in
     let bs = c.args.set.now in
     let k = c.args.k in
     let r = record_in c.args.target.now in
     let i = c.loop-i.i in
-    before_on n i (record_byte n bs k) (byte_of r) (entry_byte bs (16 + 9 * n * k + 9 * i)) (byte_in (entry_of c.entry_at.result)) c.loop-i-test.true c.loop-i.invariant.0
-    (λ s l. let e : 16 + 9 * n * k + (9 * i + s) ≡ 16 + 9 * n * k + 9 * i + s = omega arith in ap (λ (z : ℕ). get_or bs z 0) e)
-    (λ s l. byte_of_lem n bs k r i s l ∙ ap (λ (z : ℕ × ℕ). byte_in z s) (sym c.entry_at.ensures))
-    c.in-Less.ensures
-
-pub returns-in-Greater : goal.returns-in-Greater
-returns-in-Greater c =
-    let n = c.args.target.now.machines in
-    let bs = c.args.set.now in
-    let k = c.args.k in
-    let r = record_in c.args.target.now in
-    let i = c.loop-i.i in
-    before_on n i (byte_of r) (record_byte n bs k) (byte_in (entry_of c.entry_at.result)) (entry_byte bs (16 + 9 * n * k + 9 * i)) c.loop-i-test.true (same_sym (9 * i) (record_byte n bs k) (byte_of r) c.loop-i.invariant.0)
-    (λ s l. byte_of_lem n bs k r i s l ∙ ap (λ (z : ℕ × ℕ). byte_in z s) (sym c.entry_at.ensures))
-    (λ s l. let e : 16 + 9 * n * k + (9 * i + s) ≡ 16 + 9 * n * k + 9 * i + s = omega arith in ap (λ (z : ℕ). get_or bs z 0) e)
-    c.in-Greater.ensures
+    let o = c.start-start.result + 9 * i in
+    let there = entry_there n bs k r i o (omega (arith, c.start-start.ensures)) in
+    let here = entry_here n bs k r i (entry_of c.entry.result) c.entry.ensures in
+    let same = c.loop-i.invariant.0 in
+    record {
+      order =
+          apart _ _ c.compare_entry.result c.in_default.not-Equal
+          (before_on n i (record_byte n bs k) (byte_of r) (entry_byte bs o) (byte_in (entry_of c.entry.result)) c.loop-i-test.true same there here)
+          (before_on n i (byte_of r) (record_byte n bs k) (byte_in (entry_of c.entry.result)) (entry_byte bs o) c.loop-i-test.true (same_sym (9 * i) (record_byte n bs k) (byte_of r) same) here there)
+          c.compare_entry.ensures;
+      alike = λ j e. same_bytes n bs j r (λ t. (c.type_inv.set t).fits) e;
+    }
 
 pub loop-i-preserved : goal.loop-i-preserved
 loop-i-preserved c =
@@ -37,13 +33,24 @@ loop-i-preserved c =
     let k = c.args.k in
     let r = record_in c.args.target.now in
     let i = c.loop-i.i in
+    let o = c.start-start.result + 9 * i in
     let q = c.in-Equal.ensures in (
-      same_on n i (record_byte n bs k) (byte_of r) (entry_byte bs (16 + 9 * n * k + 9 * i)) (byte_in (entry_of c.entry_at.result)) c.loop-i-test.true c.loop-i.invariant.0
-          (λ s l. let e : 16 + 9 * n * k + (9 * i + s) ≡ 16 + 9 * n * k + 9 * i + s = omega arith in ap (λ (z : ℕ). get_or bs z 0) e)
-          (λ s l. byte_of_lem n bs k r i s l ∙ ap (λ (z : ℕ × ℕ). byte_in z s) (sym c.entry_at.ensures))
+      same_on n i (record_byte n bs k) (byte_of r) (entry_byte bs o) (byte_in (entry_of c.entry.result)) c.loop-i-test.true c.loop-i.invariant.0
+          (entry_there n bs k r i o (omega (arith, c.start-start.ensures)))
+          (entry_here n bs k r i (entry_of c.entry.result) c.entry.ensures)
           q.0,
       (λ j l. elim (cases_lt j (9 * i)) [
         | inl lt ↦ c.loop-i.invariant.1 j lt
-        | inr ge ↦ (let e : i ≡ j / 9 = omega arith in subst (λ (z : ℕ). code_in r z < 2 ^ 64) e (subst (λ (z : ℕ × ℕ). z.1 < 2 ^ 64) c.entry_at.ensures q.1))
+        | inr ge ↦ (let e : i ≡ j / 9 = omega arith in subst (λ (z : ℕ). code_in r z < 2 ^ 64) e (subst (λ (z : ℕ × ℕ). z.1 < 2 ^ 64) c.entry.ensures q.1))
       ]),
     )
+
+pub returns : goal.returns
+returns c =
+    let n = c.args.target.now.machines in
+    let bs = c.args.set.now in
+    let r = record_in c.args.target.now in
+    record {
+      order = ((λ t l. c.loop-i.invariant.0 t (omega arith)), (λ t l. c.loop-i.invariant.1 t (omega arith)));
+      alike = λ j e. same_bytes n bs j r (λ t. (c.type_inv.set t).fits) e;
+    }

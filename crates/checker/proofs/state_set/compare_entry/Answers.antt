@@ -1,35 +1,23 @@
-use Rattle.std.proofs.Common.{◌≡◌, ℕ, ◌+◌, ◌^◌, ◌<◌, get_or, sym, subst, inl, inr, arith}
-use Rattle.std.proofs.lemmas.Bool.{cases_eq}
-use Rattle.checker.proofs.Ordered.{byte_is, swapped, swapped_before, swapped_apart, codes_before, before_left, before_right}
-use Rattle.checker.specs.SetFile.{entry_byte, byte_in, long_at}
+use Rattle.std.proofs.Common.{◌≡◌, ◌+◌, ◌^◌, ◌<◌, ℕ, nat_cmp, sym, ap, ◌∙◌, arith}
+use Rattle.checker.proofs.Ordered.{swapped, codes_stand, locals_stand}
+use Rattle.checker.specs.SetFile.{long_at}
 use Rattle.checker.proofs.state_set.compare_entry.Goals as goal
 
-pub returns-then-swap_bytes : goal.returns-then-swap_bytes
+pub returns-in-Equal : goal.returns-in-Equal
 unfolding swapped
-returns-then-swap_bytes c =
+returns-in-Equal c =
     let bs = c.args.set.now in
     let o = c.args.at in
     let e = c.args.entry in
-    let long = long_at bs (o + 1) in
-    let local : get_or bs o 0 ≡ e.local = omega (arith, c.if-set-at.false, c.if-set-at-2.false) in
-    let less : swapped c.long-number.result < swapped e.code = omega (arith, c.swap_bytes.ensures, c.swap_bytes-2.ensures, c.if-swap_bytes.true) in
-    let less' = subst (λ (z : ℕ). swapped z < swapped e.code) c.long-number.ensures less in
-    before_left 9 (byte_in (get_or bs o 0, long)) (byte_in (e.local, e.code)) (entry_byte bs o)
-    (codes_before (get_or bs o 0) e.local long e.code local (swapped_before long e.code less'))
-    (byte_is bs (λ t. (c.type_inv.set t).fits) o)
-
-pub returns-else-swap_bytes : goal.returns-else-swap_bytes
-unfolding swapped
-returns-else-swap_bytes c =
-    let bs = c.args.set.now in
-    let o = c.args.at in
-    let e = c.args.entry in
-    let long = long_at bs (o + 1) in
-    let local : get_or bs o 0 ≡ e.local = omega (arith, c.if-set-at.false, c.if-set-at-2.false) in
     let small : e.code < 2 ^ 64 = omega arith in
-    let apart = swapped_apart c.long-number.result e.code c.long-number.type_inv small c.if-number-entry.false in
-    let less : swapped e.code < swapped c.long-number.result = elim (cases_eq (swapped c.long-number.result) (swapped e.code)) [ inl q ↦ absurd (apart q) | inr ne ↦ omega (arith, c.swap_bytes.ensures, c.swap_bytes-2.ensures, c.if-swap_bytes.false, ne) ] in
-    let less' = subst (λ (z : ℕ). swapped e.code < swapped z) c.long-number.ensures less in
-    before_right 9 (byte_in (e.local, e.code)) (byte_in (get_or bs o 0, long)) (entry_byte bs o)
-    (codes_before e.local (get_or bs o 0) e.code long (sym local) (swapped_before e.code long less'))
-    (byte_is bs (λ t. (c.type_inv.set t).fits) o)
+    let there : c.swap_bytes.result ≡ swapped (long_at bs (o + 1)) = omega (arith, c.swap_bytes.ensures, c.long.ensures) in
+    let here : c.swap_bytes-in-Equal.result ≡ swapped e.code = omega (arith, c.swap_bytes-in-Equal.ensures) in
+    codes_stand bs (λ t. (c.type_inv.set t).fits) o e.local e.code small c.cmp-in-Equal.result
+    (sym c.cmp.ensures ∙ c.in-Equal.is)
+    (c.cmp-in-Equal.ensures ∙ ap (λ (x : ℕ). nat_cmp x c.swap_bytes-in-Equal.result) there ∙ ap (nat_cmp (swapped (long_at bs (o + 1)))) here)
+
+pub returns-in_default : goal.returns-in_default
+returns-in_default c =
+    let e = c.args.entry in
+    let small : e.code < 2 ^ 64 = omega arith in
+    locals_stand c.args.set.now (λ t. (c.type_inv.set t).fits) c.args.at e.local e.code small c.cmp.result c.in_default.not-Equal c.cmp.ensures

@@ -1,6 +1,0 @@
-use Rattle.std.proofs.Common.{sym}
-use Rattle.checker.proofs.Holding.{held_at}
-use Rattle.checker.proofs.held.entry_at.Goals as goal
-
-pub returns : goal.returns
-returns c = sym (held_at c.args.held.now c.args.i c.requires.below)

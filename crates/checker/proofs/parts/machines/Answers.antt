@@ -1,9 +1,0 @@
-use Rattle.std.proofs.Common.{◌∙◌, arith}
-use Rattle.table.proofs.Parts.{machines_long}
-use Rattle.checker.proofs.parts.machines.Goals as goal
-
-pub overflow_cast-result : goal.overflow_cast-result
-overflow_cast-result c = record { fits = omega (arith, machines_long c.args.table.now.bytes.now) }
-
-pub returns : goal.returns
-returns c = c.machine_count.ensures ∙ machines_long c.args.table.now.bytes.now

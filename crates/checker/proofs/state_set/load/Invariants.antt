@@ -1,8 +1,0 @@
-use Rattle.std.proofs.Common.{◌≡◌, ℕ, ◌+◌, ◌*◌, ◌<◌, length, get_or}
-use Rattle.checker.proofs.Holding.{blank}
-use Rattle.checker.specs.Held.{entry_of}
-use Rattle.checker.specs.SetFile.{long_at}
-use Rattle.checker.proofs.state_set.load.Given as goal
-
-abbrev pub invariant-loop-i : goal.invariant-loop-i
-invariant-loop-i l = (length l.held.entries ≡ 6) × (l.held.machines ≡ l.n) × ((j : ℕ) → j < l.i → entry_of (get_or l.held.entries j blank) ≡ (get_or l.set (16 + 9 * l.n * l.k + 9 * j) 0, long_at l.set (16 + 9 * l.n * l.k + 9 * j + 1)))

@@ -1,0 +1,36 @@
+// What is judged: a case, its set once that is in good form, and one record of the set.
+ghost use Rattle.table.specs.Layout.{machines_n};
+ghost use Rattle.checker.specs.Plan.{Planned};
+ghost use Rattle.checker.specs.Props.{set_ready_prop, planned_prop};
+ghost use Rattle.checker.specs.SetFile.{SetReady};
+
+use crate::held::Held;
+use crate::parts::ReadTable;
+use crate::plan::Plan;
+use crate::state_set::StateSet;
+
+// A table that reads, a set and an abstraction.
+#[derive(Drop)]
+pub(crate) struct Case<'t, 'a, A> {
+    pub(crate) table: ReadTable<'t>,
+    pub(crate) set: StateSet<'a>,
+    pub(crate) abstraction: &'a A,
+}
+
+// A case whose set is as long as it says and has records that rise, and the plan of its table.
+#[derive(Drop)]
+pub(crate) struct Judge<'t, 'a, A> {
+    pub(crate) case: &'a Case<'t, 'a, A>,
+    pub(crate) plan: Plan,
+    ghost rising: { SetReady (machines_n case.now.table.view.bytes.now) case.now.set.bytes.now } by { set_ready_prop (machines_n case.now.table.view.bytes.now) case.now.set.bytes.now },
+    ghost planned: { Planned case.now.table.view.bytes.now plan } by { planned_prop case.now.table.view.bytes.now plan },
+}
+
+// Record `k` of the set, as it is held. That it is sound is asked of callers: a good code names some queue, and a ghost
+// field holds only facts that have one proof.
+#[derive(Drop)]
+pub(crate) struct Judgement<'t, 'a, A> {
+    pub(crate) judge: &'a Judge<'t, 'a, A>,
+    pub(crate) k: u16,
+    pub(crate) held: Held,
+}
