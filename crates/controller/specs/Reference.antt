@@ -60,6 +60,10 @@ fired r (Some n) = Err (fault_at n r)
 abbrev pub sight : State → ℕ → ℕ → Sight
 sight s i p = record { local = local_at s i; waiting = length (queue_at s i); event = slice_get (queue_at s i) p }
 
+-- the same if there is such a machine
+abbrev pub seen_of : State → ℕ → ℕ → Option Sight
+seen_of s i p = cond (nat_lt i (length s)) (Some (sight s i p)) None
+
 abbrev pub looked : System → State → ℕ → ℕ → Result Sight Fault
 looked S s i p = cond (nat_lt i (machines S)) (Ok (sight s i p)) (Err (fault_at NoMachine i))
 

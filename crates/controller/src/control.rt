@@ -67,13 +67,10 @@ impl<'a> Controller<'a> {
         ensures exact { Fires (system_in self.old) self.old.capacity rule (state_in self.old) (state_in self.new) result }
         ensures keeps { Keeps self.old self.new }
     {
-        let Some(named) = self.table.rule(rule) else {
-            return Err(refused(Refusal::NoRule, rule));
-        };
-        if let Err(refusal) = self.machines.fire(self.capacity, named) {
-            return Err(refused(refusal, rule));
-        }
-        Ok(())
+        let named = self.table.rule(rule).ok_or(refused(Refusal::NoRule, rule))?;
+        self.machines
+            .fire(self.capacity, named)
+            .map_err(|refusal| refused(refusal, rule))
     }
 
     // Goes back to the start.
@@ -88,10 +85,9 @@ impl<'a> Controller<'a> {
     pub fn look(&self, machine: u8, place: u8) -> Result<Sight, Fault>
         ensures { result ≡ looked (system_in self.now) (state_in self.now) machine place }
     {
-        if machine >= self.machines.count {
-            return Err(fault_at(Refusal::NoMachine, u32::from(machine)));
-        }
-        Ok(self.machines.sight(machine, place))
+        self.machines
+            .sight(machine, place)
+            .ok_or(fault_at(Refusal::NoMachine, u32::from(machine)))
     }
 
     // Makes a call.
