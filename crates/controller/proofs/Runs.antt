@@ -1,8 +1,8 @@
 -- Whole runs of the reference controller. Assumes nothing.
-use Rattle.std.proofs.Common.{◌≡◌, ℕ, suc, ◌+◌, ◌<◌, min, Bool, cond, List, [], ◌∷◌, ◌++◌, length, get_or, take, drop, set, Some, None, Ok, Err, Option, sym, refl, ap, ◌∙◌, subst, inl, inr, append_assoc, arith, length-take, length-take-le}
+use Rattle.std.proofs.Common.{◌≡◌, ℕ, suc, ◌+◌, ◌<◌, Bool, cond, List, [], ◌∷◌, ◌++◌, length, get_or, take, drop, set, Some, None, Ok, Err, Option, sym, refl, ap, ◌∙◌, subst, inl, inr, append_assoc, arith, length-take-le}
 use lib.Seq.{take-append_seam}
 use Rattle.std.specs.List.{AllByRecursion}
-use Rattle.std.proofs.lemmas.List.{take_more, drop_more, take_all}
+use Rattle.std.proofs.lemmas.List.{take_more, drop_more}
 use Rattle.std.proofs.lemmas.Bool.{cases_lt, lt-ltb, le-ltb}
 use Rattle.model.specs.declared.fault.Refusal.{Refusal}
 use Rattle.model.specs.declared.fault.Refusal.TheVariants.{NoMachine}
@@ -14,7 +14,7 @@ use Rattle.model.specs.Steps.{Reaches, begin, onward}
 use Rattle.model.specs.Bad.{Bad, GoesWrong}
 use Rattle.controller.specs.Exact.{Fires}
 use Rattle.controller.specs.Hindrances.{Applies, numbers, order}
-use Rattle.controller.specs.Reference.{refusal, acted, unless, fired, sight, looked, to_fire, to_look, answer, next, answers_to, after, states, made, filled}
+use Rattle.controller.specs.Reference.{refusal, acted, unless, fired, sight, looked, to_fire, to_look, answer, next, answers_to, after, states, filled}
 use Rattle.controller.specs.Runs.{Run, done, steps, stays, restarts, sees, lacks, RunReaches, RunSafe, RunsSafe}
 use Rattle.controller.specs.declared.call.Answer.{Answer}
 use Rattle.controller.specs.declared.call.Call.{Call}
@@ -112,22 +112,6 @@ module _ (S S1 : System) (cap cap1 : ℕ) (s s1 : State) (cs : List Call) (E out
       ∙ set_here A (get_or E i e) a (drop (i + 1) E)
       ∙ sym (append_assoc A (a ∷ []) (drop (i + 1) E))
       ∙ ap (λ (r : List Answer). r ++ drop (i + 1) E) (ap (λ (b : Answer). A ++ (b ∷ [])) is ∙ sym (answers_push S cap (take i cs) s (get_or cs i d)) ∙ ap (answers_to S cap s) (sym (take_more cs i d hc)))
-
--- where as many calls were made as there are calls and places
-module _ (cs : List Call) (E : List Answer) (n : ℕ) (is : n ≡ min (length cs) (length E)) where
-  pub made_all : take n cs ≡ made cs E
-  made_all = elim (cases_lt (length cs) (length E)) [
-    | inl lt ↦ take_all n cs (omega arith) ∙ sym (take_all (length E) cs (omega arith))
-    | inr ge ↦ ap (λ (k : ℕ). take k cs) (let e : n ≡ length E = omega arith in e)
-  ]
-
-  pub length_made : n ≡ length (made cs E)
-  length_made = is ∙ sym (length-take (length E) cs ∙ (let e : min (length E) (length cs) ≡ min (length cs) (length E) = omega arith in e))
-
-  pub filled_all : (S : System) (cap : ℕ) (s : State) (out : List Answer) → out ≡ answers_to S cap s (take n cs) ++ drop n E → out ≡ filled (answers_to S cap s (made cs E)) E
-  filled_all S cap s out h =
-      h ∙ ap (λ (r : List Call). answers_to S cap s r ++ drop n E) made_all
-      ∙ ap (λ (k : ℕ). answers_to S cap s (made cs E) ++ drop k E) (length_made ∙ sym (length_answers S cap (made cs E) s))
 
 -- a controller that was loaded with system S at a capacity runs as the reference does from the start
 module _ (S0 S : System) (cap0 cap : ℕ) (s : State) (same_system : S0 ≡ S) (ec : cap0 ≡ cap) (es : s ≡ start S0) (cs : List Call) where

@@ -119,10 +119,11 @@ impl<'a> Controller<'a> {
         ensures state { state_in self.new ≡ after (system_in self.old) self.old.capacity (state_in self.old) (made calls.now answers.old) }
         ensures keeps { Keeps self.old self.new }
     {
-        let count = calls.len().min(answers.len());
-        for i in 0..count {
-            answers[i] = self.answer(calls[i]);
+        let made = &calls[..calls.len().min(answers.len())];
+        // By its index: of a place that a zip lends no proof knows what was written.
+        for (i, call) in made.iter().enumerate() {
+            answers[i] = self.answer(*call);
         }
-        count
+        made.len()
     }
 }
