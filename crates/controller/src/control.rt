@@ -90,30 +90,27 @@ impl<'a> Controller<'a> {
             .ok_or(fault_at(Refusal::NoMachine, u32::from(machine)))
     }
 
-    // Makes a call.
-    pub fn answer(&mut self, call: Call) -> Answer
+    // Makes a call, or says why it cannot be made.
+    pub fn answer(&mut self, call: Call) -> Result<Answer, Fault>
         ensures answer { result ≡ answer (system_in self.old) self.old.capacity (state_in self.old) call }
         ensures state { state_in self.new ≡ next (system_in self.old) self.old.capacity (state_in self.old) call }
         ensures keeps { Keeps self.old self.new }
     {
         match call {
-            Call::Fire { rule } => match self.fire(rule) {
-                Ok(()) => Answer::Accepted,
-                Err(fault) => Answer::Refused(fault),
-            },
+            Call::Fire { rule } => {
+                self.fire(rule)?;
+                Ok(Answer::Accepted)
+            }
             Call::Reset => {
                 self.reset();
-                Answer::Reset
+                Ok(Answer::Reset)
             }
-            Call::Look { machine, place } => match self.look(machine, place) {
-                Ok(sight) => Answer::Seen(sight),
-                Err(fault) => Answer::Refused(fault),
-            },
+            Call::Look { machine, place } => Ok(Answer::Seen(self.look(machine, place)?)),
         }
     }
 
     // Makes calls in their order, as many as there are places for answers.
-    pub fn answer_all(&mut self, calls: &[Call], answers: &mut [Answer]) -> usize
+    pub fn answer_all(&mut self, calls: &[Call], answers: &mut [Result<Answer, Fault>]) -> usize
         ensures count { result ≡ length (made calls.now answers.old) }
         ensures answers { answers.new ≡ filled (answers_to (system_in self.old) self.old.capacity (state_in self.old) (made calls.now answers.old)) answers.old }
         ensures state { state_in self.new ≡ after (system_in self.old) self.old.capacity (state_in self.old) (made calls.now answers.old) }

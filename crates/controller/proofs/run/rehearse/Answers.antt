@@ -1,5 +1,6 @@
-use Rattle.std.proofs.Common.{◌≡◌, List, sym, refl, ap, ◌∙◌, subst, inl, inr, arith}
+use Rattle.std.proofs.Common.{◌≡◌, List, Result, sym, refl, ap, ◌∙◌, subst, inl, inr, arith}
 use Rattle.std.proofs.lemmas.Result.{err_from_is_err_and}
+use Rattle.model.specs.declared.fault.Fault.{Fault}
 use Rattle.model.specs.State.{start}
 use Rattle.table.specs.Reading.{Reads}
 use Rattle.table.specs.SystemOf.{system_of}
@@ -35,7 +36,7 @@ returns g c =
     let bytes : c.set_capacity.new.self.table.bytes.now ≡ bs = ap (λ (t : Table). t.bytes.now) h.table ∙ p.0 in
     let eS : system_in me ≡ S = l.whole (subst Reads (sym bytes) p.2.reads) ∙ ap system_of bytes in
     let ec : me.capacity ≡ cap = l.granted (omega (arith, h.set.1, h.set.2)) ∙ h.set.2 in
-    let answered : c.answer_all.new.answers ≡ filled (answers_to S cap (start S) cs) E = c.answer_all.ensures.answers ∙ ap (λ (a : List Answer). filled a E) (loaded_answers (system_in me) S me.capacity cap (state_in me) eS ec l.state cs) in
+    let answered : c.answer_all.new.answers ≡ filled (answers_to S cap (start S) cs) E = c.answer_all.ensures.answers ∙ ap (λ (a : List (Result Answer Fault)). filled a E) (loaded_answers (system_in me) S me.capacity cap (state_in me) eS ec l.state cs) in
     record {
       passes = p.2;
       some = h.set.0;

@@ -1,4 +1,4 @@
-use Rattle.std.proofs.Common.{◌<◌, length, take, ap, ◌∙◌, arith, length-take}
+use Rattle.std.proofs.Common.{◌<◌, length, take, Ok, ap, ◌∙◌, arith, length-take}
 use Rattle.table.specs.SystemOf.{system_of}
 use Rattle.table.specs.declared.view.Table.{Table}
 use Rattle.controller.specs.Hosted.{hosted}
@@ -17,5 +17,5 @@ loop-i-preserved c =
     let la : c.loop-i.i < length c.args.answers.now = omega (arith, c.min.ensures) in (
       record { table = a.keeps.table ∙ v.0.table; capacity = a.keeps.capacity ∙ v.0.capacity },
       state_more _ _ _ _ _ _ _ _ _ _ _ eS v.0.capacity lc la v.1 v.2 _ a.state,
-      answers_more _ _ _ _ _ _ _ _ _ _ _ eS v.0.capacity lc la v.1 v.2 Accepted _ a.answer,
+      answers_more _ _ _ _ _ _ _ _ _ _ _ eS v.0.capacity lc la v.1 v.2 (Ok Accepted) _ a.answer,
     )
