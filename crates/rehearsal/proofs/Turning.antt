@@ -35,16 +35,17 @@ joined : (old new : List Reply) (r q : Option Reply) (more : List Reply) → new
 joined old new r q more e p =
     ap (λ l. l ++ more) (e ∙ ap (λ o. old ++ option_to_list o) p) ∙ append_assoc old (option_to_list q) more
 
-pub loaded_more : (S S1 : System) (cap cap1 : ℕ) (s t : State) (xs : List Line) (i : ℕ) (old new all : List Reply) (r : Option Reply) → S1 ≡ S → cap1 ≡ cap → i < length xs → old ++ loaded S cap s (i + 1) (drop i xs) ≡ all → r ≡ make_reply S1 cap1 s (i + 1) (line_at xs i) → t ≡ make_state S1 cap1 s (line_at xs i) → new ≡ old ++ option_to_list r → new ++ loaded S cap t (i + 1 + 1) (drop (i + 1) xs) ≡ all
-loaded_more S S1 cap cap1 s t xs i old new all r eS ec h inv er et en =
+pub loaded_more : (S S1 : System) (cap cap1 : ℕ) (s t : State) (xs : List Line) (i k next : ℕ) (old new all : List Reply) (r : Option Reply) → next ≡ k + 1 → S1 ≡ S → cap1 ≡ cap → i < length xs → old ++ loaded S cap s k (drop i xs) ≡ all → r ≡ make_reply S1 cap1 s k (line_at xs i) → t ≡ make_state S1 cap1 s (line_at xs i) → new ≡ old ++ option_to_list r → new ++ loaded S cap t next (drop (i + 1) xs) ≡ all
+loaded_more S S1 cap cap1 s t xs i k next old new all r ek eS ec h inv er et en =
     let x = line_at xs i in
-    let q : r ≡ make_reply S cap s (i + 1) x =
-    er ∙ ap (λ T. make_reply T cap1 s (i + 1) x) eS ∙ ap (λ n. make_reply S n s (i + 1) x) ec in
+    let q : r ≡ make_reply S cap s k x =
+    er ∙ ap (λ T. make_reply T cap1 s k x) eS ∙ ap (λ n. make_reply S n s k x) ec in
     let u : t ≡ make_state S cap s x = et ∙ ap (λ T. make_state T cap1 s x) eS ∙ ap (λ n. make_state S n s x) ec in
-    ap (λ v. new ++ loaded S cap v (i + 1 + 1) (drop (i + 1) xs)) u
-    ∙ joined old new r (make_reply S cap s (i + 1) x) (loaded S cap (make_state S cap s x) (i + 1 + 1) (drop (i + 1) xs)) en q
-    ∙ ap (λ l. old ++ l) (sym (loaded_one S cap s (i + 1) x (drop (i + 1) xs)))
-    ∙ ap (λ l. old ++ loaded S cap s (i + 1) l) (sym (rest_at xs i h))
+    ap (λ n. new ++ loaded S cap t n (drop (i + 1) xs)) ek
+    ∙ ap (λ v. new ++ loaded S cap v (k + 1) (drop (i + 1) xs)) u
+    ∙ joined old new r (make_reply S cap s k x) (loaded S cap (make_state S cap s x) (k + 1) (drop (i + 1) xs)) en q
+    ∙ ap (λ l. old ++ l) (sym (loaded_one S cap s k x (drop (i + 1) xs)))
+    ∙ ap (λ l. old ++ loaded S cap s k l) (sym (rest_at xs i h))
     ∙ inv
 
 pub held_more : (S : System) (cap next : ℕ) (xs : List Line) (i : ℕ) (old new all : List Reply) (r : Option Reply) → ((c : Asked) → line_at xs i ≡ Call c → ⊥) → i < length xs → old ++ held S cap (i + 1) (drop i xs) ≡ all → r ≡ hold_reply (i + 1) (line_at xs i) → next ≡ hold_capacity cap (line_at xs i) → new ≡ old ++ option_to_list r → new ++ held S next (i + 1 + 1) (drop (i + 1) xs) ≡ all

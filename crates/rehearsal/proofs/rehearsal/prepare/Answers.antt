@@ -9,6 +9,7 @@ returns-in-Call c =
       replies =
           λ S. ap (λ l. vec_items c.loop-at.replies ++ l) (held_call S c.loop-at.pass.capacity c.args.lines.now c.loop-at.at c.in-Call.field-0 c.loop-at-test.true c.in-Call.is) ∙ c.loop-at.invariant.0 S;
       table = c.loop-at.invariant.1;
+      first = omega (arith, c.loop-at-test.true);
     }
 
 pub loop-at-preserved : goal.loop-at-preserved
@@ -21,4 +22,5 @@ returns c =
       replies =
           λ S. ap (λ l. vec_items c.loop-at.replies ++ l) (loaded_end S (min c.loop-at.pass.capacity 32) (start S) (length c.args.lines.now + 1) (length c.args.lines.now) c.args.lines.now (omega arith) ∙ sym (held_end S c.loop-at.pass.capacity (c.loop-at.at + 1) c.loop-at.at c.args.lines.now c.loop-at-test.false)) ∙ c.loop-at.invariant.0 S;
       table = c.loop-at.invariant.1;
+      first = omega arith;
     }
