@@ -1,5 +1,4 @@
-use Rattle.std.proofs.Common.{◌≡◌, List, Result, sym, refl, ap, ◌∙◌, subst, inl, inr, arith}
-use Rattle.std.proofs.lemmas.Result.{err_from_is_err_and}
+use Rattle.std.proofs.Common.{◌≡◌, List, Result, sym, refl, ap, ◌∙◌, subst, arith}
 use Rattle.model.specs.declared.fault.Fault.{Fault}
 use Rattle.model.specs.State.{start}
 use Rattle.table.specs.Reading.{Reads}
@@ -10,17 +9,6 @@ use Rattle.controller.specs.Views.{system_in, state_in}
 use Rattle.controller.specs.declared.call.Answer.{Answer}
 use Rattle.controller.proofs.Runs.{run_safe, places_run, loaded_answers}
 use Rattle.controller.proofs.run.rehearse.Goals as goal
-
-pub returns-in_err-pass : goal.returns-in_err-pass
-returns-in_err-pass g c =
-    let e = err_from_is_err_and c.from_residual.result c.from_residual.ensures.1 in
-    rw (e.1, e.2) (refl, inl c.in_err-pass.ensures.checked)
-
-pub returns-in_err-set_capacity : goal.returns-in_err-set_capacity
-returns-in_err-set_capacity g c =
-    let e = err_from_is_err_and c.from_residual-in_err-set_capacity.result c.from_residual-in_err-set_capacity.ensures.1 in
-    let h = c.in_err-set_capacity.ensures.set in
-    rw (e.1, e.2) (refl, inr (c.in_ok-pass.ensures.exactly, h.0, h.1))
 
 pub returns : goal.returns
 returns g c =
