@@ -1,17 +1,14 @@
 -- A rule that is not blocked. Assumes nothing.
-use Rattle.std.proofs.Common.{◌≡◌, ℕ, ◌<◌, ◌≤◌, List, [], ◌∷◌, length, drop, set, Some, None, Ok, Option, sym, ap, ◌∙◌, subst, inl, inr, arith, get_or-set_other, get_or-set_same}
+use Rattle.std.proofs.Common.{◌≡◌, ℕ, ◌<◌, List, [], ◌∷◌, length, drop, set, Some, None, Option, sym, ap, ◌∙◌, inl, inr, arith, get_or-set_other, get_or-set_same}
 use lib.Seq.{set_out}
 use Rattle.std.proofs.lemmas.Bool.{cases_eq, cases_lt, eq-eqb, ne_eqb, le-ltb}
-use Rattle.model.specs.declared.fault.Refusal.{Refusal}
 use Rattle.model.specs.declared.fault.Refusal.TheVariants.{OtherState, QueueEmpty, OtherFront, QueueFull}
 use Rattle.model.specs.declared.rule.Action.{Action}
 use Rattle.model.specs.declared.rule.Action.TheVariants.{Local, Take, Send}
 use Rattle.model.specs.declared.rule.Rule.{Rule}
 use Rattle.model.specs.State.{State, local_at, queue_at}
-use Rattle.model.specs.Steps.{moved, sent}
-use Rattle.controller.specs.Held.{left, delivered}
 use Rattle.controller.specs.Exact.{Room}
-use Rattle.controller.specs.Reference.{taking, acting, blocked, acted, unless, outcome}
+use Rattle.controller.specs.Reference.{taking, acting, blocked}
 
 -- one machine's queue put back leaves every queue
 pub queue_put_back : (s : State) (i l k : ℕ) → queue_at (set s i (l, queue_at s i)) k ≡ queue_at s k
@@ -55,36 +52,3 @@ pub free_room : (cap : ℕ) (s : State) (i : ℕ) (a : Action) → acting cap s 
 free_room cap s i Local h = tt
 free_room cap s i (Take e) h = tt
 free_room cap s i (Send e d) h = sending_free cap s i e d h
-
--- what is left to show of a fire once its machine has moved, to state t
-module _ (cap : ℕ) (s t : State) (x : Rule) (free : blocked cap s x ≡ None) (go : t ≡ moved x (left x.action (queue_at s x.machine)) s) where
-  pub accepted : Ok tt ≡ outcome (blocked cap s x)
-  accepted = sym (ap outcome free)
-
-  still_room : (a : Action) → t ≡ moved x (left a (queue_at s x.machine)) s → Room cap a s → Room cap a t
-  still_room Local h room = tt
-  still_room (Take e) h room = tt
-  still_room (Send e d) h room =
-      let same : queue_at t d ≡ queue_at s d = ap (λ (u : State). queue_at u d) h ∙ queue_put_back s x.machine x.to d in
-      rw same room
-
-  pub room_left : Room cap x.action t
-  room_left = still_room x.action go (free_room cap s x.machine x.action (free_acting cap s x free))
-
-  ends : (a : Action) → t ≡ moved x (left a (queue_at s x.machine)) s → delivered a t ≡ acted a x s
-  ends Local h = h
-  ends (Take e) h = h
-  ends (Send e d) h = ap (sent e d) h
-
-  pub fired_to : (u : State) → u ≡ delivered x.action t → u ≡ unless (blocked cap s x) s (acted x.action x s)
-  fired_to u h = h ∙ ends x.action go ∙ sym (ap (λ (o : Option Refusal). unless o s (acted x.action x s)) free)
-
--- there is room for more where there is for less
-pub more_room : (cap n : ℕ) → cap ≤ n → (a : Action) (s : State) → Room cap a s → Room n a s
-more_room cap n h Local s room = tt
-more_room cap n h (Take e) s room = tt
-more_room cap n h (Send e d) s room = omega arith
-
--- what room means for a send, whatever term stands for its action
-pub room_for : (cap : ℕ) (s : State) (a : Action) (e d : ℕ) → a ≡ Send e d → Room cap a s → length (queue_at s d) < cap
-room_for cap s a e d is room = subst (λ (b : Action). Room cap b s) is room

@@ -1,5 +1,5 @@
 -- A fire of the reference controller is a step of the system. Assumes nothing.
-use Rattle.std.proofs.Common.{◌≡◌, ℕ, ◌<◌, ◌≤◌, length, drop, Some, None, Ok, Err, Option, Result, sym, refl, ap, ◌∙◌, subst, inl, inr, arith}
+use Rattle.std.proofs.Common.{◌≡◌, ℕ, ◌<◌, ◌≤◌, length, drop, Some, None, Option, Result, sym, refl, ap, ◌∙◌, subst, inl, inr, arith}
 use Rattle.std.specs.List.{slice_get}
 use Rattle.std.proofs.lemmas.Option.{slice_get-get_or, slice_get_past}
 use Rattle.std.proofs.lemmas.Bool.{cases_lt, eq-eqb, lt-ltb, le-ltb}
@@ -12,10 +12,9 @@ use Rattle.model.specs.declared.rule.Rule.{Rule}
 use Rattle.model.specs.System.{System, rule_of}
 use Rattle.model.specs.State.{State, local_at, queue_at}
 use Rattle.model.specs.Steps.{Acts, Makes}
-use Rattle.table.specs.Header.{fault_at}
 use Rattle.controller.specs.Exact.{Room, Fires}
 use Rattle.controller.specs.Promises.{ExactSteps}
-use Rattle.controller.specs.Reference.{acting, blocked, refusal, acted, unless, outcome, fired, next}
+use Rattle.controller.specs.Reference.{acting, blocked, refusal, acted, unless, fired, next}
 use Rattle.controller.specs.declared.call.Call.TheVariants.{Fire}
 use Rattle.controller.proofs.Blocked.{never, free_from, free_acting, free_room, taking_free}
 
@@ -42,12 +41,6 @@ module _ (S : System) (cap : ℕ) (s : State) (r : ℕ) where
   refusal_beyond : length S.rules ≤ r → refusal S cap s r ≡ Some NoRule
   refusal_beyond h = simp (le-ltb r (length S.rules) h)
 
-  pub refusal_none : slice_get S.rules r ≡ None → refusal S cap s r ≡ Some NoRule
-  refusal_none e = elim (cases_lt r (length S.rules)) [
-    | inl lt ↦ absurd (never (sym (slice_get-get_or S.rules r (rule_of S r) lt) ∙ e))
-    | inr ge ↦ refusal_beyond ge
-  ]
-
   below_named : (x : Rule) → slice_get S.rules r ≡ Some x → r < length S.rules
   below_named x e = elim (cases_lt r (length S.rules)) [ inl lt ↦ lt | inr ge ↦ absurd (never (sym e ∙ slice_get_past S.rules r ge)) ]
 
@@ -61,20 +54,6 @@ module _ (S : System) (cap : ℕ) (s : State) (r : ℕ) where
   module _ (x : Rule) (e : slice_get S.rules r ≡ Some x) where
     pub next_named : (t : State) → t ≡ unless (blocked cap s x) s (acted x.action x s) → t ≡ next S cap s (Fire r)
     next_named t h = h ∙ sym (ap (λ (y : Rule). unless (blocked cap s x) s (acted y.action y s)) (rule_named x e)) ∙ sym (ap (λ (o : Option Refusal). unless o s (acted (rule_of S r).action (rule_of S r) s)) (refusal_named x e))
-
-    pub fired_ok : (u : Unit {0}) → Ok u ≡ outcome (blocked cap s x) → Ok tt ≡ fired r (refusal S cap s r)
-    fired_ok u h = go (blocked cap s x) h ∙ sym (ap (fired r) (refusal_named x e))
-      where
-        go : (o : Option Refusal) → Ok u ≡ outcome o → Ok tt ≡ fired r o
-        go None h = refl
-        go (Some n) h = let z : ◌≡◌ {A = ℕ} 0 1 = cc in absurd (omega arith)
-
-    pub fired_err : (n : Refusal) (f : Fault) → Err n ≡ outcome (blocked cap s x) → f ≡ fault_at n r → Err f ≡ fired r (refusal S cap s r)
-    fired_err n f h is = go (blocked cap s x) h ∙ sym (ap (fired r) (refusal_named x e))
-      where
-        go : (o : Option Refusal) → Err n ≡ outcome o → Err f ≡ fired r o
-        go None h = let z : ◌≡◌ {A = ℕ} 0 1 = cc in absurd (omega arith)
-        go (Some k) h = let same : n ≡ k = cc in ap Err (is ∙ ap (λ (q : Refusal). fault_at q r) same)
 
   exact_there : r < length S.rules → (o : Option Refusal) → blocked cap s (rule_of S r) ≡ o → Fires S cap r s (unless o s (acted (rule_of S r).action (rule_of S r) s)) (fired r o)
   exact_there h None e =

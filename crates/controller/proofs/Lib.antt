@@ -1,6 +1,6 @@
-mod Shift
-mod States
+mod Places
 mod Blocked
+mod Short
 mod Exact
 mod Hosting
 mod Runs

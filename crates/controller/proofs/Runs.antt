@@ -1,9 +1,10 @@
 -- Whole runs of the reference controller. Assumes nothing.
-use Rattle.std.proofs.Common.{◌≡◌, ℕ, suc, ◌+◌, ◌<◌, min, Bool, cond, List, [], ◌∷◌, ◌++◌, length, get_or, take, drop, set, Some, None, Ok, Err, Option, sym, refl, ap, ◌∙◌, subst, inl, inr, append_assoc, arith, length-take, length-take-le}
+use Rattle.std.proofs.Common.{◌≡◌, ℕ, suc, ◌+◌, ◌<◌, Bool, cond, List, [], ◌∷◌, ◌++◌, length, get_or, take, drop, set, Some, None, Ok, Err, Option, Result, sym, refl, ap, ◌∙◌, subst, inl, inr, append_assoc, arith, length-take-le}
 use lib.Seq.{take-append_seam}
 use Rattle.std.specs.List.{AllByRecursion}
-use Rattle.std.proofs.lemmas.List.{take_more, drop_more, take_all}
+use Rattle.std.proofs.lemmas.List.{take_more, drop_more}
 use Rattle.std.proofs.lemmas.Bool.{cases_lt, lt-ltb, le-ltb}
+use Rattle.model.specs.declared.fault.Fault.{Fault}
 use Rattle.model.specs.declared.fault.Refusal.{Refusal}
 use Rattle.model.specs.declared.fault.Refusal.TheVariants.{NoMachine}
 use Rattle.table.specs.Header.{fault_at}
@@ -14,7 +15,7 @@ use Rattle.model.specs.Steps.{Reaches, begin, onward}
 use Rattle.model.specs.Bad.{Bad, GoesWrong}
 use Rattle.controller.specs.Exact.{Fires}
 use Rattle.controller.specs.Hindrances.{Applies, numbers, order}
-use Rattle.controller.specs.Reference.{refusal, acted, unless, fired, sight, looked, to_fire, to_look, answer, next, answers_to, after, states, made, filled}
+use Rattle.controller.specs.Reference.{refusal, acted, unless, fired, sight, looked, to_fire, to_look, answer, next, answers_to, after, states, filled}
 use Rattle.controller.specs.Runs.{Run, done, steps, stays, restarts, sees, lacks, RunReaches, RunSafe, RunsSafe}
 use Rattle.controller.specs.declared.call.Answer.{Answer}
 use Rattle.controller.specs.declared.call.Call.{Call}
@@ -54,7 +55,7 @@ module _ (S : System) (cap : ℕ) where
 
   answers_push : (cs : List Call) (s : State) (c : Call) → answers_to S cap s (cs ++ (c ∷ [])) ≡ answers_to S cap s cs ++ (answer S cap (after S cap s cs) c ∷ [])
   answers_push [] s c = refl
-  answers_push (b ∷ cs) s c = ap (λ (r : List Answer). answer S cap s b ∷ r) (answers_push cs (next S cap s b) c)
+  answers_push (b ∷ cs) s c = ap (λ (r : List (Result Answer Fault)). answer S cap s b ∷ r) (answers_push cs (next S cap s b) c)
 
   length_answers : (cs : List Call) (s : State) → length (answers_to S cap s cs) ≡ length cs
   length_answers [] s = refl
@@ -79,21 +80,21 @@ module _ (S : System) (cap : ℕ) where
   reference_runs (Look i p ∷ cs) s = look_runs cs (reference_runs cs) s i p
 
   -- the same of places that the answers were written to
-  pub places_run : (cs : List Call) (s : State) (n : ℕ) (E out : List Answer) (t : State) → n ≡ length cs → out ≡ filled (answers_to S cap s cs) E → t ≡ after S cap s cs → Run S cap s cs (take n out) t
+  pub places_run : (cs : List Call) (s : State) (n : ℕ) (E out : List (Result Answer Fault)) (t : State) → n ≡ length cs → out ≡ filled (answers_to S cap s cs) E → t ≡ after S cap s cs → Run S cap s cs (take n out) t
   places_run cs s n E out t long is stands =
       let A = answers_to S cap s cs in
       let front : take n out ≡ A = ap (take n) is ∙ ap (λ (k : ℕ). take k (A ++ drop (length A) E)) (long ∙ sym (length_answers S cap cs s)) ∙ take-append_seam A (drop (length A) E) in
-      subst (λ (ws : List Answer). Run S cap s cs ws t) (sym front) (subst (λ (u : State). Run S cap s cs A u) (sym stands) (reference_runs cs s))
+      subst (λ (ws : List (Result Answer Fault)). Run S cap s cs ws t) (sym front) (subst (λ (u : State). Run S cap s cs A u) (sym stands) (reference_runs cs s))
 
 pub runs_safe : (S : System) → (GoesWrong S → ⊥) → RunsSafe S
 runs_safe S never cap cs low high = run_safe S cap never cs
 
-set_here : (A : List Answer) (e a : Answer) (R : List Answer) → set (A ++ (e ∷ R)) (length A) a ≡ A ++ (a ∷ R)
+set_here : (A : List (Result Answer Fault)) (e a : Result Answer Fault) (R : List (Result Answer Fault)) → set (A ++ (e ∷ R)) (length A) a ≡ A ++ (a ∷ R)
 set_here [] e a R = refl
-set_here (x ∷ A) e a R = ap (λ (r : List Answer). x ∷ r) (set_here A e a R)
+set_here (x ∷ A) e a R = ap (λ (r : List (Result Answer Fault)). x ∷ r) (set_here A e a R)
 
 -- a run, one call on: from controllers that keep system S and capacity cap
-module _ (S S1 : System) (cap cap1 : ℕ) (s s1 : State) (cs : List Call) (E out : List Answer) (i : ℕ) (d : Call)
+module _ (S S1 : System) (cap cap1 : ℕ) (s s1 : State) (cs : List Call) (E out : List (Result Answer Fault)) (i : ℕ) (d : Call)
     (same_system : S1 ≡ S) (ec : cap1 ≡ cap) (hc : i < length cs) (room : i < length E)
     (hs : s1 ≡ after S cap s (take i cs)) (ho : out ≡ answers_to S cap s (take i cs) ++ drop i E) where
   pub state_more : (t : State) → t ≡ next S1 cap1 s1 (get_or cs i d) → t ≡ after S cap s (take (i + 1) cs)
@@ -101,33 +102,17 @@ module _ (S S1 : System) (cap cap1 : ℕ) (s s1 : State) (cs : List Call) (E out
       h ∙ ap (λ (x : System). next x cap1 s1 (get_or cs i d)) same_system ∙ ap (λ (n : ℕ). next S n s1 (get_or cs i d)) ec ∙ ap (λ (u : State). next S cap u (get_or cs i d)) hs
       ∙ sym (after_push S cap (take i cs) s (get_or cs i d)) ∙ ap (after S cap s) (sym (take_more cs i d hc))
 
-  pub answers_more : (e a : Answer) → a ≡ answer S1 cap1 s1 (get_or cs i d) → set out i a ≡ answers_to S cap s (take (i + 1) cs) ++ drop (i + 1) E
+  pub answers_more : (e a : Result Answer Fault) → a ≡ answer S1 cap1 s1 (get_or cs i d) → set out i a ≡ answers_to S cap s (take (i + 1) cs) ++ drop (i + 1) E
   answers_more e a h =
       let A = answers_to S cap s (take i cs) in
       let is : a ≡ answer S cap (after S cap s (take i cs)) (get_or cs i d) =
       h ∙ ap (λ (x : System). answer x cap1 s1 (get_or cs i d)) same_system ∙ ap (λ (n : ℕ). answer S n s1 (get_or cs i d)) ec ∙ ap (λ (u : State). answer S cap u (get_or cs i d)) hs in
       let long : length A ≡ i = length_answers S cap (take i cs) s ∙ length-take-le i cs (omega arith) in
-      ap (λ (o : List Answer). set o i a) (ho ∙ ap (λ (r : List Answer). A ++ r) (drop_more E i e room))
+      ap (λ (o : List (Result Answer Fault)). set o i a) (ho ∙ ap (λ (r : List (Result Answer Fault)). A ++ r) (drop_more E i e room))
       ∙ ap (λ (n : ℕ). set (A ++ (get_or E i e ∷ drop (i + 1) E)) n a) (sym long)
       ∙ set_here A (get_or E i e) a (drop (i + 1) E)
       ∙ sym (append_assoc A (a ∷ []) (drop (i + 1) E))
-      ∙ ap (λ (r : List Answer). r ++ drop (i + 1) E) (ap (λ (b : Answer). A ++ (b ∷ [])) is ∙ sym (answers_push S cap (take i cs) s (get_or cs i d)) ∙ ap (answers_to S cap s) (sym (take_more cs i d hc)))
-
--- where as many calls were made as there are calls and places
-module _ (cs : List Call) (E : List Answer) (n : ℕ) (is : n ≡ min (length cs) (length E)) where
-  pub made_all : take n cs ≡ made cs E
-  made_all = elim (cases_lt (length cs) (length E)) [
-    | inl lt ↦ take_all n cs (omega arith) ∙ sym (take_all (length E) cs (omega arith))
-    | inr ge ↦ ap (λ (k : ℕ). take k cs) (let e : n ≡ length E = omega arith in e)
-  ]
-
-  pub length_made : n ≡ length (made cs E)
-  length_made = is ∙ sym (length-take (length E) cs ∙ (let e : min (length E) (length cs) ≡ min (length cs) (length E) = omega arith in e))
-
-  pub filled_all : (S : System) (cap : ℕ) (s : State) (out : List Answer) → out ≡ answers_to S cap s (take n cs) ++ drop n E → out ≡ filled (answers_to S cap s (made cs E)) E
-  filled_all S cap s out h =
-      h ∙ ap (λ (r : List Call). answers_to S cap s r ++ drop n E) made_all
-      ∙ ap (λ (k : ℕ). answers_to S cap s (made cs E) ++ drop k E) (length_made ∙ sym (length_answers S cap (made cs E) s))
+      ∙ ap (λ (r : List (Result Answer Fault)). r ++ drop (i + 1) E) (ap (λ (b : Result Answer Fault). A ++ (b ∷ [])) is ∙ sym (answers_push S cap (take i cs) s (get_or cs i d)) ∙ ap (answers_to S cap s) (sym (take_more cs i d hc)))
 
 -- a controller that was loaded with system S at a capacity runs as the reference does from the start
 module _ (S0 S : System) (cap0 cap : ℕ) (s : State) (same_system : S0 ≡ S) (ec : cap0 ≡ cap) (es : s ≡ start S0) (cs : List Call) where

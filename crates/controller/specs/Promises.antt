@@ -50,14 +50,14 @@ pub record Promised (table set : List ℕ) (T : Claim) (x : Result Pass Fault) :
 -- what a loaded controller promises of the calls for whose answers there are places: every answer is the reference controller's and
 -- nothing is written beyond them, it stands in the reference's state t, the answers and t are related to the calls by Run, and every
 -- state on the way is reached by the system's own steps
-pub record Ran (S : System) (cap : ℕ) (calls : List Call) (places answers : List Answer) (t : State) : Type 0 where
+pub record Ran (S : System) (cap : ℕ) (calls : List Call) (places answers : List (Result Answer Fault)) (t : State) : Type 0 where
   pub answered : answers ≡ filled (answers_to S cap (start S) (made calls places)) places
   pub stands : t ≡ after S cap (start S) (made calls places)
   pub related : Run S cap (start S) (made calls places) (take (length (made calls places)) answers) t
   pub reached : RunReaches S cap (made calls places)
 
 -- the same from the bytes on, where the set passes and the capacity is from 1 to 32: then no state on the way is bad
-pub record RanSafely (table set : List ℕ) (T : Claim) (cap : ℕ) (calls : List Call) (places answers : List Answer) (n : ℕ) : Type 0 where
+pub record RanSafely (table set : List ℕ) (T : Claim) (cap : ℕ) (calls : List Call) (places answers : List (Result Answer Fault)) (n : ℕ) : Type 0 where
   pub passes : Passes table set T
   pub some : 1 ≤ cap
   pub few : cap ≤ 32
@@ -67,7 +67,7 @@ pub record RanSafely (table set : List ℕ) (T : Claim) (cap : ℕ) (calls : Lis
   pub safe : RunSafe T.system cap (made calls places)
 
 -- else the fault of the check, or of the capacity, and nothing is written
-abbrev pub Rehearsed : List ℕ → List ℕ → Claim → ℕ → List Call → List Answer → List Answer → Result ℕ Fault → Type 0
+abbrev pub Rehearsed : List ℕ → List ℕ → Claim → ℕ → List Call → List (Result Answer Fault) → List (Result Answer Fault) → Result ℕ Fault → Type 0
 Rehearsed table set T cap calls places answers (Ok n) = RanSafely table set T cap calls places answers n
 Rehearsed table set T cap calls places answers (Err f) =
     (answers ≡ places)

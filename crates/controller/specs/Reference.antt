@@ -12,7 +12,7 @@ use Rattle.model.specs.State.{State, local_at, queue_at, start}
 use Rattle.model.specs.Steps.{moved, sent}
 use Rattle.table.specs.Header.{fault_at}
 use Rattle.controller.specs.declared.call.Answer.{Answer}
-use Rattle.controller.specs.declared.call.Answer.TheVariants.{Accepted, Reset as WasReset, Seen, Refused}
+use Rattle.controller.specs.declared.call.Answer.TheVariants.{Accepted, Reset as WasReset, Seen}
 use Rattle.controller.specs.declared.call.Call.{Call}
 use Rattle.controller.specs.declared.call.Call.TheVariants.{Fire, Reset, Look}
 use Rattle.controller.specs.declared.call.Sight.{Sight}
@@ -60,21 +60,25 @@ fired r (Some n) = Err (fault_at n r)
 abbrev pub sight : State → ℕ → ℕ → Sight
 sight s i p = record { local = local_at s i; waiting = length (queue_at s i); event = slice_get (queue_at s i) p }
 
+-- the same if there is such a machine
+abbrev pub seen_of : State → ℕ → ℕ → Option Sight
+seen_of s i p = cond (nat_lt i (length s)) (Some (sight s i p)) None
+
 abbrev pub looked : System → State → ℕ → ℕ → Result Sight Fault
 looked S s i p = cond (nat_lt i (machines S)) (Ok (sight s i p)) (Err (fault_at NoMachine i))
 
-abbrev pub to_fire : Result (Unit {0}) Fault → Answer
-to_fire (Ok u) = Accepted
-to_fire (Err f) = Refused f
+abbrev pub to_fire : Result (Unit {0}) Fault → Result Answer Fault
+to_fire (Ok u) = Ok Accepted
+to_fire (Err f) = Err f
 
-abbrev pub to_look : Result Sight Fault → Answer
-to_look (Ok l) = Seen l
-to_look (Err f) = Refused f
+abbrev pub to_look : Result Sight Fault → Result Answer Fault
+to_look (Ok l) = Ok (Seen l)
+to_look (Err f) = Err f
 
 -- the answer to a call in state s
-abbrev pub answer : System → ℕ → State → Call → Answer
+abbrev pub answer : System → ℕ → State → Call → Result Answer Fault
 answer S cap s (Fire r) = to_fire (fired r (refusal S cap s r))
-answer S cap s Reset = WasReset
+answer S cap s Reset = Ok WasReset
 answer S cap s (Look i p) = to_look (looked S s i p)
 
 -- the state after a call
@@ -84,7 +88,7 @@ next S cap s Reset = start S
 next S cap s (Look i p) = s
 
 -- the answers to calls in their order, and the state after them
-abbrev pub answers_to : System → ℕ → State → List Call → List Answer
+abbrev pub answers_to : System → ℕ → State → List Call → List (Result Answer Fault)
 answers_to S cap s [] = []
 answers_to S cap s (c ∷ cs) = answer S cap s c ∷ answers_to S cap (next S cap s c) cs
 
@@ -98,8 +102,8 @@ states S cap s [] = s ∷ []
 states S cap s (c ∷ cs) = s ∷ states S cap (next S cap s c) cs
 
 -- the calls for whose answers there are places, and the places with answers from the first on
-abbrev pub made : List Call → List Answer → List Call
+abbrev pub made : List Call → List (Result Answer Fault) → List Call
 made calls places = take (length places) calls
 
-abbrev pub filled : List Answer → List Answer → List Answer
+abbrev pub filled : List (Result Answer Fault) → List (Result Answer Fault) → List (Result Answer Fault)
 filled answers places = answers ++ drop (length answers) places

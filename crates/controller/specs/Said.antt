@@ -1,8 +1,7 @@
 -- The line that says an answer. Assumes nothing.
 use Rattle.std.specs.Prelude.{ℕ, List, ◌++◌, Some, None, codes, decimal, Option}
-use Rattle.model.specs.Numbers.{line}
 use Rattle.controller.specs.declared.call.Answer.{Answer}
-use Rattle.controller.specs.declared.call.Answer.TheVariants.{Accepted, Reset, Seen, Refused}
+use Rattle.controller.specs.declared.call.Answer.TheVariants.{Accepted, Reset, Seen}
 use Rattle.controller.specs.declared.call.Sight.{Sight}
 
 -- an event, or `none`
@@ -18,4 +17,3 @@ abbrev pub said : Answer → List ℕ
 said Accepted = codes "accepted"
 said Reset = codes "reset"
 said (Seen s) = seen s
-said (Refused f) = line f

@@ -1,8 +1,7 @@
-// What is asked of a controller, and what it answers.
+// What is asked of a controller, and what it answers where it does not refuse.
 ghost use Rattle.std.specs.Prelude.{Some};
 ghost use Rattle.controller.specs.Said.{said, seen};
 
-use model::fault::Fault;
 use std::fmt;
 
 #[derive(Clone, Copy)]
@@ -25,7 +24,6 @@ pub enum Answer {
     Accepted,
     Reset,
     Seen(Sight),
-    Refused(Fault),
 }
 
 // The line that says the answer.
@@ -37,7 +35,6 @@ impl fmt::Display for Answer {
             Answer::Accepted => write!(f, "accepted"),
             Answer::Reset => write!(f, "reset"),
             Answer::Seen(sight) => write!(f, "{sight}"),
-            Answer::Refused(fault) => write!(f, "{fault}"),
         }
     }
 }

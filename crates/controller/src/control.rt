@@ -67,13 +67,10 @@ impl<'a> Controller<'a> {
         ensures exact { Fires (system_in self.old) self.old.capacity rule (state_in self.old) (state_in self.new) result }
         ensures keeps { Keeps self.old self.new }
     {
-        let Some(named) = self.table.rule(rule) else {
-            return Err(refused(Refusal::NoRule, rule));
-        };
-        if let Err(refusal) = self.machines.fire(self.capacity, named) {
-            return Err(refused(refusal, rule));
-        }
-        Ok(())
+        let named = self.table.rule(rule).ok_or(refused(Refusal::NoRule, rule))?;
+        self.machines
+            .fire(self.capacity, named)
+            .map_err(|refusal| refused(refusal, rule))
     }
 
     // Goes back to the start.
@@ -88,45 +85,42 @@ impl<'a> Controller<'a> {
     pub fn look(&self, machine: u8, place: u8) -> Result<Sight, Fault>
         ensures { result ≡ looked (system_in self.now) (state_in self.now) machine place }
     {
-        if machine >= self.machines.count {
-            return Err(fault_at(Refusal::NoMachine, u32::from(machine)));
-        }
-        Ok(self.machines.sight(machine, place))
+        self.machines
+            .sight(machine, place)
+            .ok_or(fault_at(Refusal::NoMachine, u32::from(machine)))
     }
 
-    // Makes a call.
-    pub fn answer(&mut self, call: Call) -> Answer
+    // Makes a call, or says why it cannot be made.
+    pub fn answer(&mut self, call: Call) -> Result<Answer, Fault>
         ensures answer { result ≡ answer (system_in self.old) self.old.capacity (state_in self.old) call }
         ensures state { state_in self.new ≡ next (system_in self.old) self.old.capacity (state_in self.old) call }
         ensures keeps { Keeps self.old self.new }
     {
         match call {
-            Call::Fire { rule } => match self.fire(rule) {
-                Ok(()) => Answer::Accepted,
-                Err(fault) => Answer::Refused(fault),
-            },
+            Call::Fire { rule } => {
+                self.fire(rule)?;
+                Ok(Answer::Accepted)
+            }
             Call::Reset => {
                 self.reset();
-                Answer::Reset
+                Ok(Answer::Reset)
             }
-            Call::Look { machine, place } => match self.look(machine, place) {
-                Ok(sight) => Answer::Seen(sight),
-                Err(fault) => Answer::Refused(fault),
-            },
+            Call::Look { machine, place } => Ok(Answer::Seen(self.look(machine, place)?)),
         }
     }
 
     // Makes calls in their order, as many as there are places for answers.
-    pub fn answer_all(&mut self, calls: &[Call], answers: &mut [Answer]) -> usize
+    pub fn answer_all(&mut self, calls: &[Call], answers: &mut [Result<Answer, Fault>]) -> usize
         ensures count { result ≡ length (made calls.now answers.old) }
         ensures answers { answers.new ≡ filled (answers_to (system_in self.old) self.old.capacity (state_in self.old) (made calls.now answers.old)) answers.old }
         ensures state { state_in self.new ≡ after (system_in self.old) self.old.capacity (state_in self.old) (made calls.now answers.old) }
         ensures keeps { Keeps self.old self.new }
     {
-        let count = calls.len().min(answers.len());
-        for i in 0..count {
-            answers[i] = self.answer(calls[i]);
+        let made = &calls[..calls.len().min(answers.len())];
+        // By its index: of a place that a zip lends no proof knows what was written.
+        for (i, call) in made.iter().enumerate() {
+            answers[i] = self.answer(*call);
         }
-        count
+        made.len()
     }
 }

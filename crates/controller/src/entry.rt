@@ -1,35 +1,69 @@
-// A machine as a controller holds it: its local state and its queue.
-ghost use Rattle.std.specs.Prelude.{◌≡◌, ℕ, ◌<◌, [], ◌∷◌, ◌++◌};
-ghost use Rattle.controller.specs.Held.{entry_of, waiting_in, Sized, left};
+// A machine as a controller holds it: its local state and its queue, whose events lie in the value itself.
+ghost use Rattle.std.specs.Prelude.{◌≡◌, ◌<◌, ◌≤◌, [], ◌∷◌, ◌++◌, length};
+ghost use Rattle.controller.specs.Held.{left};
 
-use crate::queue::Queue;
+use arrayvec::ArrayVec;
+use checker::pass::FULL_CAPACITY;
 use model::rule::{Action, Rule};
+use std::marker::Model;
 
-#[derive(Clone, Copy)]
+// How many events a queue has room for.
+pub const PLACES: usize = FULL_CAPACITY as usize;
+
+// Seen as the local state and the events that wait, front first.
+#[derive(Drop)]
 pub struct Entry {
-    pub local: u8,
-    pub queue: Queue,
+    pub(crate) local: u8,
+    pub(crate) queue: ArrayVec<u8, PLACES>,
+}
+
+impl Model for Entry {
+    ghost use Rattle.std.specs.Prelude.{ℕ, List};
+
+    ghost Value = { ℕ × List ℕ };
+
+    ghost view = { λ e. (e.local, e.queue.items) };
 }
 
 impl Entry {
+    // A machine in local state 0 with nothing waiting.
+    pub(crate) fn at_start() -> Entry
+        ensures { result ≡ (0, []) }
+    {
+        Entry {
+            local: 0,
+            queue: ArrayVec::new(),
+        }
+    }
+
+    pub(crate) fn local(&self) -> u8
+        ensures { result ≡ self.now.0 }
+    {
+        self.local
+    }
+
+    // The events that wait, front first.
+    pub(crate) fn events(&self) -> &[u8]
+        ensures events { result.now ≡ self.now.1 }
+        ensures few { length result.now ≤ 32 }
+    {
+        self.queue.as_slice()
+    }
+
     // Goes where a rule of this machine leads, and takes the front event off if the rule is a take.
     pub(crate) fn follow(&mut self, rule: Rule)
-        requires { Sized 32 self.old.queue }
-        ensures is { entry_of self.new ≡ (rule.to, left rule.action (waiting_in self.old.queue)) }
-        ensures sized { (n : ℕ) → Sized n self.old.queue → Sized n self.new.queue }
+        ensures { self.new ≡ (rule.to, left rule.action self.old.1) }
     {
         self.local = rule.to;
         if let Action::Take { event: _ } = rule.action {
-            self.queue.pop();
+            self.queue.pop_at(0);
         }
     }
 
     // Lets an event come to the back of the queue.
     pub(crate) fn receive(&mut self, event: u8)
-        requires sized { Sized 32 self.old.queue }
-        requires room { self.old.queue.waiting < 32 }
-        ensures is { entry_of self.new ≡ (self.old.local, waiting_in self.old.queue ++ (event ∷ [])) }
-        ensures sized { (n : ℕ) → self.old.queue.waiting < n → Sized n self.new.queue }
+        requires { length self.old.1 < 32 }
+        ensures { self.new ≡ (self.old.0, self.old.1 ++ (event ∷ [])) }
     {
         self.queue.push(event);
     }

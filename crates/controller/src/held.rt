@@ -13,9 +13,7 @@ pub struct Controller<'a> {
     pub(crate) table: Table<'a>,
     pub(crate) capacity: u8,
     pub(crate) machines: Machines,
-    ghost held: { machines.count ≡ machines_of (hosted (system_of table.bytes.now)) },
+    ghost held: { length machines ≡ machines_of (hosted (system_of table.bytes.now)) },
     ghost small: { capacity ≤ 32 },
-    ghost few: { machines.count ≤ 6 },
-    ghost long: { length machines.entries ≡ 6 },
     ghost short: { Short capacity machines },
 }

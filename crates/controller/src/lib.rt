@@ -6,5 +6,4 @@ pub mod control;
 mod entry;
 pub mod held;
 mod machines;
-mod queue;
 pub mod run;

@@ -1,104 +1,113 @@
 // The machines of a controller, as they stand.
-ghost use Rattle.std.specs.Prelude.{◌≡◌, ℕ, ◌<◌, ◌≤◌, [], length, replicate, slice_index_or};
-ghost use Rattle.model.specs.State.{queue_at};
+ghost use Rattle.std.specs.Prelude.{◌≡◌, ◌<◌, ◌≤◌, [], length, replicate};
+ghost use Rattle.model.specs.State.{local_at, queue_at};
 ghost use Rattle.model.specs.Steps.{moved, sent};
 ghost use Rattle.controller.specs.Exact.{Room};
-ghost use Rattle.controller.specs.Held.{entry_of, state_of, Sized, Short, Fit, left, delivered};
-ghost use Rattle.controller.specs.Reference.{blocked, outcome, acted, unless, sight};
+ghost use Rattle.controller.specs.Held.{left, delivered};
+ghost use Rattle.controller.specs.Reference.{blocked, taking, outcome, acted, unless, seen_of};
 
 use crate::call::Sight;
 use crate::entry::Entry;
-use crate::queue::{PLACES, Queue};
 use model::fault::Refusal;
 use model::rule::{Action, Rule};
+use std::array;
+use std::marker::Model;
 
+// The checker has the same number for its own records, private to it: sharing it would be no plainer.
 pub const MOST_MACHINES: usize = 6;
 
-// The first `count` entries count.
-#[derive(Clone, Copy)]
+// The first `count` entries count. Seen as the state that these stand for.
+#[derive(Drop)]
 pub struct Machines {
-    pub count: u8,
-    pub entries: [Entry; MOST_MACHINES],
+    count: u8,
+    entries: [Entry; MOST_MACHINES],
 }
 
-// A machine in local state 0 with nothing waiting.
-const AT_START: Entry = Entry {
-    local: 0,
-    queue: Queue {
-        events: [0; PLACES],
-        waiting: 0,
-    },
-};
+impl Model for Machines {
+    ghost use Rattle.std.specs.Prelude.{◌≡◌, ◌≤◌, length, take};
+    ghost use Rattle.model.specs.State.{State};
+
+    ghost Value = { State };
+
+    ghost view = { λ m. take m.count m.entries };
+
+    ghost invariant = { λ m. (m.count ≤ 6) × (length m.entries ≡ 6) };
+}
 
 impl Machines {
     // Every machine at the start.
     pub(crate) fn at_start(count: u8) -> Machines
         requires { count ≤ 6 }
-        ensures state { state_of result ≡ replicate count (0, []) }
-        ensures count { result.count ≡ count }
-        ensures long { length result.entries ≡ 6 }
-        ensures short { (cap : ℕ) → Short cap result }
+        ensures { result ≡ replicate count (0, []) }
     {
         Machines {
             count,
-            entries: [AT_START; MOST_MACHINES],
+            entries: array::from_fn(|_| Entry::at_start()),
         }
     }
 
     // Every machine back at the start.
     pub(crate) fn restart(&mut self)
-        requires { self.old.count ≤ 6 }
-        ensures state { state_of self.new ≡ replicate self.old.count (0, []) }
-        ensures count { self.new.count ≡ self.old.count }
-        ensures long { length self.new.entries ≡ 6 }
-        ensures short { (cap : ℕ) → Short cap self.new }
+        ensures { self.new ≡ replicate (length self.old) (0, []) }
     {
         *self = Machines::at_start(self.count);
     }
 
-    // The entry of a machine; where there is no such machine, that of one at the start.
-    fn entry(&self, machine: u8) -> Entry
-        requires { Fit 32 self.now }
-        ensures is { entry_of result ≡ slice_index_or (state_of self.now) machine (0, []) }
-        ensures sized { Sized 32 result.queue }
+    // The entries that count.
+    fn held(&self) -> &[Entry]
+        ensures { result.now ≡ self.now }
     {
-        if machine < self.count {
-            self.entries[machine as usize]
-        } else {
-            AT_START
+        &self.entries[..self.count as usize]
+    }
+
+    // The local state of a machine; where there is no such machine, 0.
+    fn local(&self, machine: u8) -> u8
+        ensures { result ≡ local_at self.now machine }
+    {
+        match self.held().get(machine as usize) {
+            Some(entry) => entry.local(),
+            None => 0,
         }
     }
 
-    // What a look sees of a machine and a place of its queue.
-    pub(crate) fn sight(&self, machine: u8, place: u8) -> Sight
-        requires { Fit 32 self.now }
-        ensures { result ≡ sight (state_of self.now) machine place }
+    // The events that wait for a machine; where there is no such machine, none.
+    fn events(&self, machine: u8) -> &[u8]
+        ensures { result.now ≡ queue_at self.now machine }
     {
-        let entry = self.entry(machine);
-        Sight {
-            local: entry.local,
-            waiting: entry.queue.waiting,
-            event: entry.queue.at(place),
+        match self.held().get(machine as usize) {
+            Some(entry) => entry.events(),
+            None => &[],
         }
     }
 
-    // Why a rule cannot be fired, if there is a reason.
-    fn blocked(&self, capacity: u8, rule: Rule) -> Option<Refusal>
-        requires { Fit 32 self.now }
-        ensures { result ≡ blocked capacity (state_of self.now) rule }
+    // What a look sees of a machine and a place of its queue, if there is such a machine.
+    pub(crate) fn sight(&self, machine: u8, place: u8) -> Option<Sight>
+        ensures { result ≡ seen_of self.now machine place }
     {
-        let entry = self.entry(rule.machine);
-        if entry.local != rule.from {
-            return Some(Refusal::OtherState);
+        let entry = self.held().get(machine as usize)?;
+        let events = entry.events();
+        Some(Sight {
+            local: entry.local(),
+            waiting: events.len() as u8,
+            event: events.get(place as usize).copied(),
+        })
+    }
+
+    // Lets a rule be fired, or says why it cannot be.
+    fn may_fire(&self, capacity: u8, rule: Rule) -> Result<(), Refusal>
+        ensures { result ≡ outcome (blocked capacity self.now rule) }
+    {
+        if self.local(rule.machine) != rule.from {
+            return Err(Refusal::OtherState);
         }
         match rule.action {
-            Action::Local => None,
-            Action::Take { event } => entry.queue.refuses(event),
+            Action::Local => Ok(()),
+            Action::Take { event } => may_take(self.events(rule.machine), event),
             Action::Send { event: _, target } => {
-                if self.entry(target).queue.waiting < capacity {
-                    None
+                if self.events(target).len() < capacity as usize {
+                    Ok(())
                 } else {
-                    Some(Refusal::QueueFull)
+                    Err(Refusal::QueueFull)
                 }
             }
         }
@@ -106,10 +115,7 @@ impl Machines {
 
     // Moves the machine of a rule.
     fn follow(&mut self, rule: Rule)
-        requires { Fit 32 self.old }
-        ensures state { state_of self.new ≡ moved rule (left rule.action (queue_at (state_of self.old) rule.machine)) (state_of self.old) }
-        ensures fit { (cap : ℕ) → Fit cap self.old → Fit cap self.new }
-        ensures count { self.new.count ≡ self.old.count }
+        ensures { self.new ≡ moved rule (left rule.action (queue_at self.old rule.machine)) self.old }
     {
         if rule.machine < self.count {
             self.entries[rule.machine as usize].follow(rule);
@@ -118,11 +124,8 @@ impl Machines {
 
     // Lets an event come to the back of a machine's queue.
     fn receive(&mut self, event: u8, target: u8)
-        requires fit { Fit 32 self.old }
-        requires room { length (queue_at (state_of self.old) target) < 32 }
-        ensures state { state_of self.new ≡ sent event target (state_of self.old) }
-        ensures fit { (cap : ℕ) → Fit cap self.old → length (queue_at (state_of self.old) target) < cap → Fit cap self.new }
-        ensures count { self.new.count ≡ self.old.count }
+        requires { length (queue_at self.old target) < 32 }
+        ensures { self.new ≡ sent event target self.old }
     {
         if target < self.count {
             self.entries[target as usize].receive(event);
@@ -131,11 +134,8 @@ impl Machines {
 
     // Delivers the event of a send to its target; any other rule leaves the queues.
     fn deliver(&mut self, rule: Rule)
-        requires fit { Fit 32 self.old }
-        requires room { Room 32 rule.action (state_of self.old) }
-        ensures state { state_of self.new ≡ delivered rule.action (state_of self.old) }
-        ensures fit { (cap : ℕ) → Fit cap self.old → Room cap rule.action (state_of self.old) → Fit cap self.new }
-        ensures count { self.new.count ≡ self.old.count }
+        requires { Room 32 rule.action self.old }
+        ensures { self.new ≡ delivered rule.action self.old }
     {
         if let Action::Send { event, target } = rule.action {
             self.receive(event, target);
@@ -144,18 +144,24 @@ impl Machines {
 
     // Fires a rule, or says why it cannot be fired.
     pub(crate) fn fire(&mut self, capacity: u8, rule: Rule) -> Result<(), Refusal>
-        requires small { capacity ≤ 32 }
-        requires fit { Fit capacity self.old }
-        ensures answer { result ≡ outcome (blocked capacity (state_of self.old) rule) }
-        ensures state { state_of self.new ≡ unless (blocked capacity (state_of self.old) rule) (state_of self.old) (acted rule.action rule (state_of self.old)) }
-        ensures fit { Fit capacity self.new }
-        ensures count { self.new.count ≡ self.old.count }
+        requires { capacity ≤ 32 }
+        ensures answer { result ≡ outcome (blocked capacity self.old rule) }
+        ensures state { self.new ≡ unless (blocked capacity self.old rule) self.old (acted rule.action rule self.old) }
     {
-        if let Some(refusal) = self.blocked(capacity, rule) {
-            return Err(refusal);
-        }
+        self.may_fire(capacity, rule)?;
         self.follow(rule);
         self.deliver(rule);
         Ok(())
+    }
+}
+
+// Lets the front event be taken as `event`, or says why it cannot be.
+fn may_take(events: &[u8], event: u8) -> Result<(), Refusal>
+    ensures { result ≡ outcome (taking event events.now) }
+{
+    match events.first() {
+        None => Err(Refusal::QueueEmpty),
+        Some(front) if *front == event => Ok(()),
+        Some(_) => Err(Refusal::OtherFront),
     }
 }

@@ -14,7 +14,11 @@ use checker::pass::Pass;
 use model::fault::Fault;
 
 // Loads a table and makes calls in their order, as many as there are places for answers; the controller is handed on.
-pub fn run<'a>(pass: Pass<'a>, calls: &[Call], answers: &mut [Answer]) -> Controller<'a>
+pub fn run<'a>(
+    pass: Pass<'a>,
+    calls: &[Call],
+    answers: &mut [Result<Answer, Fault>],
+) -> Controller<'a>
     ensures { Ran (hosted (system_of pass.entry.table.bytes.now)) (min pass.entry.capacity 32) calls.now answers.old answers.new (state_in result) }
 {
     let mut controller = Controller::load(pass);
@@ -30,7 +34,7 @@ pub fn rehearse<A: QueueAbstraction>(
     abstraction: &A,
     capacity: u8,
     calls: &[Call],
-    answers: &mut [Answer],
+    answers: &mut [Result<Answer, Fault>],
 ) -> Result<usize, Fault>
     ensures { Rehearsed table.now set.now (claim_of table.now set.now (A.bits abstraction.now) (A.code abstraction.now) (A.removals abstraction.now)) capacity calls.now answers.old answers.new result }
 {

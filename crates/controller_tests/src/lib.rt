@@ -6,6 +6,7 @@ mod tests {
     use controller::call::{Answer, Call};
     use controller::run::rehearse;
     use list_abstraction::ListAbstraction;
+    use model::fault::Fault;
     use std::test::Fail;
 
     // Rule 0: machine 0 sends event 0 to machine 1. Rule 1: machine 1 takes it.
@@ -17,7 +18,11 @@ mod tests {
         b"\x01\x00\x00\x00\x00\x00\x02\x00\x01\x00\x02\x00\x10\x00\x00\x00\x00\x00\x00\x00\x00\x00\x00\x00\x00\x00\x00\x00\x00\x00\x00\x00\x00\x00\x00\x00\x00\x00\x00\x00\x00\x00\x00\x00\x01\x00\x00\x00\x00\x00\x00\x00";
 
     // How many answers, or the number of the refusal and its A.
-    fn rehearsed(capacity: u8, calls: &[Call], answers: &mut [Answer]) -> (usize, u8, u32) {
+    fn rehearsed(
+        capacity: u8,
+        calls: &[Call],
+        answers: &mut [Result<Answer, Fault>],
+    ) -> (usize, u8, u32) {
         match rehearse(TABLE, SET, &ListAbstraction, capacity, calls, answers) {
             Ok(count) => (count, 0, 0),
             Err(fault) => (0, u8::from(fault.number), fault.a),
@@ -25,12 +30,12 @@ mod tests {
     }
 
     // An answer as a number: 0 for accepted, 100 for reset, 200 and the number waiting for a sight, else the refusal.
-    fn number(answer: Answer) -> u16 {
+    fn number(answer: Result<Answer, Fault>) -> u16 {
         match answer {
-            Answer::Accepted => 0,
-            Answer::Reset => 100,
-            Answer::Seen(sight) => 200 + u16::from(sight.waiting),
-            Answer::Refused(fault) => u16::from(u8::from(fault.number)),
+            Ok(Answer::Accepted) => 0,
+            Ok(Answer::Reset) => 100,
+            Ok(Answer::Seen(sight)) => 200 + u16::from(sight.waiting),
+            Err(fault) => u16::from(u8::from(fault.number)),
         }
     }
 
@@ -43,7 +48,7 @@ mod tests {
             Call::Fire { rule: 1 },
             Call::Fire { rule: 2 },
         ];
-        let mut answers = [Answer::Reset; 5];
+        let mut answers = [Ok(Answer::Reset); 5];
         assert_eq!(rt; rehearsed(1, &calls, &mut answers), (5, 0, 0));
         let numbers = [
             number(answers[0]),
@@ -74,7 +79,7 @@ mod tests {
                 place: 0,
             },
         ];
-        let mut answers = [Answer::Accepted; 7];
+        let mut answers = [Ok(Answer::Accepted); 7];
         assert_eq!(rt; rehearsed(2, &calls, &mut answers), (6, 0, 0));
         let numbers = [
             number(answers[2]),
@@ -89,14 +94,14 @@ mod tests {
     #[test]
     fn fewer_places_than_calls(rt: HostRuntime) {
         let calls = [Call::Fire { rule: 0 }, Call::Reset];
-        let mut answers = [Answer::Reset; 1];
+        let mut answers = [Ok(Answer::Reset); 1];
         assert_eq!(rt; rehearsed(32, &calls, &mut answers), (1, 0, 0));
         assert_eq!(rt; number(answers[0]), 0);
     }
 
     #[test]
     fn capacity_out_of_range(rt: HostRuntime) {
-        let mut answers = [Answer::Reset; 1];
+        let mut answers = [Ok(Answer::Reset); 1];
         assert_eq!(rt; rehearsed(0, &[Call::Reset], &mut answers), (0, 12, 0));
         assert_eq!(rt; rehearsed(33, &[Call::Reset], &mut answers), (0, 12, 33));
         assert_eq!(rt; number(answers[0]), 100);
@@ -116,9 +121,11 @@ mod tests {
             },
             Call::Fire { rule: 7 },
         ];
-        let mut answers = [Answer::Reset; 5];
+        let mut answers = [Ok(Answer::Reset); 5];
         assert_eq!(rt; rehearsed(32, &calls, &mut answers), (4, 0, 0));
-        let [fired, front, behind, refused, unused] = answers;
+        let [Ok(fired), Ok(front), Ok(behind), Err(refused), Ok(unused)] = answers else {
+            return Err(Fail::new("not as asked"));
+        };
         let text = format!(in rt.alloc(); "{fired}|{front}|{behind}|{refused}|{unused}")?;
         assert_eq!(rt;
             text.as_str(),

@@ -1,37 +1,28 @@
 -- The replies hold the reference controller's answers.
-use Rattle.std.proofs.Common.{◌≡◌, ℕ, suc, ◌+◌, min, Bool, true, false, cond, List, [], ◌∷◌, length, refl, ap, ◌∙◌}
+use Rattle.std.proofs.Common.{◌≡◌, ℕ, suc, ◌+◌, min, List, [], ◌∷◌, length, Result, refl, ap, ◌∙◌}
 use Rattle.model.specs.declared.fault.Fault.{Fault}
-use Rattle.model.specs.declared.fault.Refusal.TheVariants.{Capacity as CapacityRefused}
 use Rattle.model.specs.System.{System}
 use Rattle.model.specs.State.{State, start}
-use Rattle.table.specs.Header.{fault_at}
 use Rattle.controller.specs.declared.call.Answer.{Answer}
 use Rattle.controller.specs.Reference.{answer, next, answers_to}
 use Rattle.calls.specs.declared.line.Line.{Line}
 use Rattle.calls.specs.declared.line.Line.TheVariants.{Skipped, Capacity, Call, NotUnderstood}
 use Rattle.rehearsal.specs.declared.reply.Reply.{Reply}
-use Rattle.rehearsal.specs.declared.reply.Reply.TheVariants.{Capacity as Set, Refused}
 use Rattle.rehearsal.specs.Laws.{calls_in, answers_in, capacity_in, spoken, Replied}
-use Rattle.rehearsal.specs.Replies.{held, loaded, settable, set_to}
+use Rattle.rehearsal.specs.Replies.{held, loaded, set_to}
 
 answers_loaded : (S : System) (cap : ℕ) (s : State) (k : ℕ) (xs : List Line) → answers_in (loaded S cap s k xs) ≡ answers_to S cap s (calls_in xs)
 answers_loaded S cap s k [] = refl
 answers_loaded S cap s k (Skipped ∷ xs) = answers_loaded S cap s (k + 1) xs
 answers_loaded S cap s k (Capacity n ∷ xs) = answers_loaded S cap s (k + 1) xs
 answers_loaded S cap s k (Call c ∷ xs) =
-    ap (λ (l : List Answer). answer S cap s c ∷ l) (answers_loaded S cap (next S cap s c) (k + 1) xs)
+    ap (λ (l : List (Result Answer Fault)). answer S cap s c ∷ l) (answers_loaded S cap (next S cap s c) (k + 1) xs)
 answers_loaded S cap s k (NotUnderstood ∷ xs) = answers_loaded S cap s (k + 1) xs
-
--- the reply to a capacity is no answer to a call
-no_answer : (b : Bool) (n : ℕ) (f : Fault) (rs : List Reply) → answers_in (cond b (Set n) (Refused f) ∷ rs) ≡ answers_in rs
-no_answer true n f rs = refl
-no_answer false n f rs = refl
 
 answers_held : (S : System) (cap k : ℕ) (xs : List Line) → answers_in (held S cap k xs) ≡ answers_to S (capacity_in cap xs) (start S) (calls_in xs)
 answers_held S cap k [] = refl
 answers_held S cap k (Skipped ∷ xs) = answers_held S cap (k + 1) xs
-answers_held S cap k (Capacity n ∷ xs) =
-    no_answer (settable n) n (fault_at CapacityRefused n) (held S (set_to cap n) (k + 1) xs) ∙ answers_held S (set_to cap n) (k + 1) xs
+answers_held S cap k (Capacity n ∷ xs) = answers_held S (set_to cap n) (k + 1) xs
 answers_held S cap k (Call c ∷ xs) = answers_loaded S (min cap 32) (start S) k (Call c ∷ xs)
 answers_held S cap k (NotUnderstood ∷ xs) = answers_held S cap (k + 1) xs
 

@@ -1,27 +1,20 @@
 -- One line after the other.
-use Rattle.std.proofs.Common.{◌≡◌, ℕ, ◌+◌, ◌<◌, ◌≤◌, min, List, [], ◌∷◌, ◌++◌, length, get_or, drop, Option, sym, refl, ap, ◌∙◌, append_assoc}
+use Rattle.std.proofs.Common.{◌≡◌, ℕ, ◌+◌, ◌<◌, min, List, [], ◌∷◌, ◌++◌, length, get_or, drop, Option, sym, refl, ap, ◌∙◌, append_assoc}
 use Rattle.std.specs.Option.{option_to_list}
-use Rattle.std.proofs.lemmas.List.{drop_more, drop_all}
+use Rattle.std.proofs.lemmas.List.{drop_more}
 use Rattle.model.specs.System.{System}
 use Rattle.model.specs.State.{State, start}
 use Rattle.calls.specs.declared.line.Line.{Line}
 use Rattle.calls.specs.declared.line.Line.TheVariants.{Skipped, Capacity, Call, NotUnderstood}
-use Rattle.controller.specs.declared.call.Call.{Call as Asked}
 use Rattle.rehearsal.specs.declared.reply.Reply.{Reply}
 use Rattle.rehearsal.specs.Replies.{held, loaded}
-use Rattle.rehearsal.specs.Turns.{hold_reply, hold_capacity, make_reply, make_state}
+use Rattle.rehearsal.specs.Turns.{make_reply, make_state}
 
 loaded_one : (S : System) (cap : ℕ) (s : State) (k : ℕ) (x : Line) (xs : List Line) → loaded S cap s k (x ∷ xs) ≡ option_to_list (make_reply S cap s k x) ++ loaded S cap (make_state S cap s x) (k + 1) xs
 loaded_one S cap s k Skipped xs = refl
 loaded_one S cap s k (Capacity n) xs = refl
 loaded_one S cap s k (Call c) xs = refl
 loaded_one S cap s k NotUnderstood xs = refl
-
-held_one : (S : System) (cap k : ℕ) (x : Line) (xs : List Line) → ((c : Asked) → x ≡ Call c → ⊥) → held S cap k (x ∷ xs) ≡ option_to_list (hold_reply k x) ++ held S (hold_capacity cap x) (k + 1) xs
-held_one S cap k Skipped xs none = refl
-held_one S cap k (Capacity n) xs none = refl
-held_one S cap k (Call c) xs none = absurd (none c refl)
-held_one S cap k NotUnderstood xs none = refl
 
 -- the line at a place
 abbrev pub line_at : List Line → ℕ → Line
@@ -35,39 +28,18 @@ joined : (old new : List Reply) (r q : Option Reply) (more : List Reply) → new
 joined old new r q more e p =
     ap (λ l. l ++ more) (e ∙ ap (λ o. old ++ option_to_list o) p) ∙ append_assoc old (option_to_list q) more
 
-pub loaded_more : (S S1 : System) (cap cap1 : ℕ) (s t : State) (xs : List Line) (i : ℕ) (old new all : List Reply) (r : Option Reply) → S1 ≡ S → cap1 ≡ cap → i < length xs → old ++ loaded S cap s (i + 1) (drop i xs) ≡ all → r ≡ make_reply S1 cap1 s (i + 1) (line_at xs i) → t ≡ make_state S1 cap1 s (line_at xs i) → new ≡ old ++ option_to_list r → new ++ loaded S cap t (i + 1 + 1) (drop (i + 1) xs) ≡ all
-loaded_more S S1 cap cap1 s t xs i old new all r eS ec h inv er et en =
+pub loaded_more : (S S1 : System) (cap cap1 : ℕ) (s t : State) (xs : List Line) (i k next : ℕ) (old new all : List Reply) (r : Option Reply) → next ≡ k + 1 → S1 ≡ S → cap1 ≡ cap → i < length xs → old ++ loaded S cap s k (drop i xs) ≡ all → r ≡ make_reply S1 cap1 s k (line_at xs i) → t ≡ make_state S1 cap1 s (line_at xs i) → new ≡ old ++ option_to_list r → new ++ loaded S cap t next (drop (i + 1) xs) ≡ all
+loaded_more S S1 cap cap1 s t xs i k next old new all r ek eS ec h inv er et en =
     let x = line_at xs i in
-    let q : r ≡ make_reply S cap s (i + 1) x =
-    er ∙ ap (λ T. make_reply T cap1 s (i + 1) x) eS ∙ ap (λ n. make_reply S n s (i + 1) x) ec in
+    let q : r ≡ make_reply S cap s k x =
+    er ∙ ap (λ T. make_reply T cap1 s k x) eS ∙ ap (λ n. make_reply S n s k x) ec in
     let u : t ≡ make_state S cap s x = et ∙ ap (λ T. make_state T cap1 s x) eS ∙ ap (λ n. make_state S n s x) ec in
-    ap (λ v. new ++ loaded S cap v (i + 1 + 1) (drop (i + 1) xs)) u
-    ∙ joined old new r (make_reply S cap s (i + 1) x) (loaded S cap (make_state S cap s x) (i + 1 + 1) (drop (i + 1) xs)) en q
-    ∙ ap (λ l. old ++ l) (sym (loaded_one S cap s (i + 1) x (drop (i + 1) xs)))
-    ∙ ap (λ l. old ++ loaded S cap s (i + 1) l) (sym (rest_at xs i h))
+    ap (λ n. new ++ loaded S cap t n (drop (i + 1) xs)) ek
+    ∙ ap (λ v. new ++ loaded S cap v (k + 1) (drop (i + 1) xs)) u
+    ∙ joined old new r (make_reply S cap s k x) (loaded S cap (make_state S cap s x) (k + 1) (drop (i + 1) xs)) en q
+    ∙ ap (λ l. old ++ l) (sym (loaded_one S cap s k x (drop (i + 1) xs)))
+    ∙ ap (λ l. old ++ loaded S cap s k l) (sym (rest_at xs i h))
     ∙ inv
-
-pub held_more : (S : System) (cap next : ℕ) (xs : List Line) (i : ℕ) (old new all : List Reply) (r : Option Reply) → ((c : Asked) → line_at xs i ≡ Call c → ⊥) → i < length xs → old ++ held S cap (i + 1) (drop i xs) ≡ all → r ≡ hold_reply (i + 1) (line_at xs i) → next ≡ hold_capacity cap (line_at xs i) → new ≡ old ++ option_to_list r → new ++ held S next (i + 1 + 1) (drop (i + 1) xs) ≡ all
-held_more S cap next xs i old new all r none h inv er ec en =
-    let x = line_at xs i in
-    ap (λ n. new ++ held S n (i + 1 + 1) (drop (i + 1) xs)) ec
-    ∙ joined old new r (hold_reply (i + 1) x) (held S (hold_capacity cap x) (i + 1 + 1) (drop (i + 1) xs)) en er
-    ∙ ap (λ l. old ++ l) (sym (held_one S cap (i + 1) x (drop (i + 1) xs) none))
-    ∙ ap (λ l. old ++ held S cap (i + 1) l) (sym (rest_at xs i h))
-    ∙ inv
-
--- the first call loads the table
-pub held_call : (S : System) (cap : ℕ) (xs : List Line) (i : ℕ) (c : Asked) → i < length xs → line_at xs i ≡ Call c → loaded S (min cap 32) (start S) (i + 1) (drop i xs) ≡ held S cap (i + 1) (drop i xs)
-held_call S cap xs i c h e =
-    let d : drop i xs ≡ Call c ∷ drop (i + 1) xs = rest_at xs i h ∙ ap (λ y. y ∷ drop (i + 1) xs) e in
-    ap (loaded S (min cap 32) (start S) (i + 1)) d ∙ sym (ap (held S cap (i + 1)) d)
-
--- at the end nothing is left to reply to
-pub loaded_end : (S : System) (cap : ℕ) (s : State) (k i : ℕ) (xs : List Line) → length xs ≤ i → loaded S cap s k (drop i xs) ≡ []
-loaded_end S cap s k i xs h = ap (loaded S cap s k) (drop_all i xs h)
-
-pub held_end : (S : System) (cap k i : ℕ) (xs : List Line) → length xs ≤ i → held S cap k (drop i xs) ≡ []
-held_end S cap k i xs h = ap (held S cap k) (drop_all i xs h)
 
 -- the replies before the first call and those from it on
 pub held_whole : (S S1 : System) (cap cap1 cap2 : ℕ) (s : State) (none before all : List Reply) (xs : List Line) (first : ℕ) → none ≡ [] → S1 ≡ S → cap2 ≡ min cap1 32 → s ≡ start S1 → ((T : System) → before ++ loaded T (min cap1 32) (start T) (first + 1) (drop first xs) ≡ none ++ held T cap 1 xs) → all ≡ before ++ loaded S1 cap2 s (first + 1) (drop first xs) → all ≡ held S cap 1 xs

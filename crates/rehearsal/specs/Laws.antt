@@ -1,5 +1,6 @@
 -- What replies are to the reference controller. Assumes nothing.
-use Rattle.std.specs.Prelude.{◌≡◌, ℕ, min, List, [], ◌∷◌, length}
+use Rattle.std.specs.Prelude.{◌≡◌, ℕ, min, List, [], ◌∷◌, length, Result}
+use Rattle.model.specs.declared.fault.Fault.{Fault}
 use Rattle.model.specs.System.{System}
 use Rattle.model.specs.State.{start}
 use Rattle.table.specs.Reading.{Reads}
@@ -13,7 +14,7 @@ use Rattle.calls.specs.declared.line.Line.TheVariants.{Skipped, Capacity, Call, 
 use Rattle.calls.specs.Lines.{lines_of}
 use Rattle.calls.specs.Reading.{ReadsAll}
 use Rattle.rehearsal.specs.declared.reply.Reply.{Reply}
-use Rattle.rehearsal.specs.declared.reply.Reply.TheVariants.{Capacity as Set, Refused, Answered, NotUnderstood as Unclear}
+use Rattle.rehearsal.specs.declared.reply.Reply.TheVariants.{Capacity as Set, Answered, NotUnderstood as Unclear}
 use Rattle.rehearsal.specs.Replies.{held, set_to}
 
 -- the calls among lines
@@ -25,10 +26,9 @@ calls_in (Call c ∷ xs) = c ∷ calls_in xs
 calls_in (NotUnderstood ∷ xs) = calls_in xs
 
 -- the answers among replies
-abbrev pub answers_in : List Reply → List Answer
+abbrev pub answers_in : List Reply → List (Result Answer Fault)
 answers_in [] = []
-answers_in (Set n ∷ rs) = answers_in rs
-answers_in (Refused f ∷ rs) = answers_in rs
+answers_in (Set x ∷ rs) = answers_in rs
 answers_in (Answered a ∷ rs) = a ∷ answers_in rs
 answers_in (Unclear k ∷ rs) = answers_in rs
 

@@ -1,5 +1,5 @@
 -- What lines are replied, one after the other. Assumes nothing.
-use Rattle.std.specs.Prelude.{ℕ, ◌+◌, min, Bool, cond, ◌&&◌, List, [], ◌∷◌, nat_le}
+use Rattle.std.specs.Prelude.{ℕ, ◌+◌, min, Bool, cond, ◌&&◌, List, [], ◌∷◌, nat_le, Ok, Err}
 use Rattle.model.specs.declared.fault.Refusal.TheVariants.{Capacity as CapacityRefused}
 use Rattle.model.specs.System.{System}
 use Rattle.model.specs.State.{State, start}
@@ -8,14 +8,14 @@ use Rattle.controller.specs.Reference.{answer, next}
 use Rattle.calls.specs.declared.line.Line.{Line}
 use Rattle.calls.specs.declared.line.Line.TheVariants.{Skipped, Capacity, Call, NotUnderstood}
 use Rattle.rehearsal.specs.declared.reply.Reply.{Reply}
-use Rattle.rehearsal.specs.declared.reply.Reply.TheVariants.{Capacity as Set, Refused, Answered, NotUnderstood as Unclear}
+use Rattle.rehearsal.specs.declared.reply.Reply.TheVariants.{Capacity as Set, Answered, NotUnderstood as Unclear}
 
 -- a capacity is from 1 to 32
 abbrev pub settable : ℕ → Bool
 settable n = nat_le 1 n && nat_le n 32
 
 abbrev pub set_reply : ℕ → Reply
-set_reply n = cond (settable n) (Set n) (Refused (fault_at CapacityRefused n))
+set_reply n = Set (cond (settable n) (Ok n) (Err (fault_at CapacityRefused n)))
 
 abbrev pub set_to : ℕ → ℕ → ℕ
 set_to cap n = cond (settable n) n cap

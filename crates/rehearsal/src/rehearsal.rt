@@ -1,5 +1,5 @@
 // The replies to all lines.
-ghost use Rattle.std.specs.Prelude.{◌≡◌, ◌+◌, min, ◌++◌, drop, IfOk, OnOk};
+ghost use Rattle.std.specs.Prelude.{◌≡◌, ◌+◌, ◌^◌, ◌≤◌, min, ◌++◌, length, drop, IfOk, OnOk};
 ghost use Rattle.std.specs.Option.{option_to_list};
 ghost use Rattle.model.specs.State.{start};
 ghost use Rattle.model.specs.System.{System};
@@ -37,6 +37,7 @@ fn prepare(
 ) -> Result<usize, AllocError>
     ensures replies { IfOk result (λ first. (S : System) → replies.new.items ++ loaded S (min pass.new.capacity 32) (start S) (first + 1) (drop first lines.now) ≡ replies.old.items ++ held S pass.old.capacity 1 lines.now) }
     ensures table { pass.new.table ≡ pass.old.table }
+    ensures first { IfOk result (λ first. first ≤ length lines.now) }
 {
     for (at, line) in lines.iter().enumerate() {
         if let Line::Call(_) = line {
@@ -47,17 +48,18 @@ fn prepare(
     Ok(lines.len())
 }
 
-// Replies to the lines from the first call on.
+// Replies to the lines from the first call on, which are numbered from `first` on.
 fn perform(
     controller: &mut Controller<'_>,
     lines: &[Line],
-    first: usize,
+    first: u64,
     replies: &mut Vec<Reply>,
 ) -> Result<(), AllocError>
-    ensures { OnOk result (replies.new.items ≡ replies.old.items ++ loaded (system_in controller.old) controller.old.capacity (state_in controller.old) (first + 1) (drop first lines.now)) }
+    requires { first + length lines.now ≤ 2 ^ 64 }
+    ensures { OnOk result (replies.new.items ≡ replies.old.items ++ loaded (system_in controller.old) controller.old.capacity (state_in controller.old) first lines.now) }
 {
-    for at in first..lines.len() {
-        add(replies, make(controller, at as u64 + 1, lines[at]))?;
+    for (at, line) in lines.iter().enumerate() {
+        add(replies, make(controller, first + at as u64, *line))?;
     }
     Ok(())
 }
@@ -74,7 +76,12 @@ pub fn reply_to_lines(
     let mut replies = Vec::new(heap);
     let first = prepare(&mut pass, lines, &mut replies)?;
     let mut controller = Controller::load(pass);
-    perform(&mut controller, lines, first, &mut replies)?;
+    perform(
+        &mut controller,
+        &lines[first..],
+        first as u64 + 1,
+        &mut replies,
+    )?;
     Ok(replies)
 }
 

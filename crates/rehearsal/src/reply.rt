@@ -8,12 +8,10 @@ use std::fmt;
 
 #[derive(Clone, Copy)]
 pub enum Reply {
-    // The capacity that was set.
-    Capacity(u8),
-    // Why a capacity was not set.
-    Refused(Fault),
-    // The controller's answer to a call.
-    Answered(Answer),
+    // The capacity that was set, or why it was not.
+    Capacity(Result<u8, Fault>),
+    // The controller's answer to a call, or why the call could not be made.
+    Answered(Result<Answer, Fault>),
     // The number of a line that asks for nothing, or for a capacity when the pass is used up.
     NotUnderstood(u64),
 }
@@ -23,9 +21,9 @@ impl fmt::Display for Reply {
 
     fn fmt<W: fmt::Write>(&self, f: &mut fmt::Formatter<W>) -> fmt::Result {
         match *self {
-            Reply::Capacity(capacity) => write!(f, "capacity {capacity}"),
-            Reply::Refused(fault) => write!(f, "{fault}"),
-            Reply::Answered(answer) => write!(f, "{answer}"),
+            Reply::Capacity(Ok(capacity)) => write!(f, "capacity {capacity}"),
+            Reply::Answered(Ok(answer)) => write!(f, "{answer}"),
+            Reply::Capacity(Err(fault)) | Reply::Answered(Err(fault)) => write!(f, "{fault}"),
             Reply::NotUnderstood(line) => write!(f, "line {line}: not understood"),
         }
     }

@@ -16,10 +16,10 @@ pub(crate) fn hold(pass: &mut Pass<'_>, number: u64, line: Line) -> Option<Reply
 {
     match line {
         Line::Skipped | Line::Call(_) => None,
-        Line::Capacity(capacity) => match pass.set_capacity(capacity) {
-            Ok(()) => Some(Reply::Capacity(capacity)),
-            Err(fault) => Some(Reply::Refused(fault)),
-        },
+        Line::Capacity(capacity) => {
+            let set = pass.set_capacity(capacity).map(|()| capacity);
+            Some(Reply::Capacity(set))
+        }
         Line::NotUnderstood => Some(Reply::NotUnderstood(number)),
     }
 }

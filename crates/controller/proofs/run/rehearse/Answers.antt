@@ -1,5 +1,5 @@
-use Rattle.std.proofs.Common.{◌≡◌, List, sym, refl, ap, ◌∙◌, subst, inl, inr, arith}
-use Rattle.std.proofs.lemmas.Result.{err_from_is_err_and}
+use Rattle.std.proofs.Common.{◌≡◌, List, Result, sym, refl, ap, ◌∙◌, subst, arith}
+use Rattle.model.specs.declared.fault.Fault.{Fault}
 use Rattle.model.specs.State.{start}
 use Rattle.table.specs.Reading.{Reads}
 use Rattle.table.specs.SystemOf.{system_of}
@@ -9,17 +9,6 @@ use Rattle.controller.specs.Views.{system_in, state_in}
 use Rattle.controller.specs.declared.call.Answer.{Answer}
 use Rattle.controller.proofs.Runs.{run_safe, places_run, loaded_answers}
 use Rattle.controller.proofs.run.rehearse.Goals as goal
-
-pub returns-in_err-pass : goal.returns-in_err-pass
-returns-in_err-pass g c =
-    let e = err_from_is_err_and c.from_residual.result c.from_residual.ensures.1 in
-    rw (e.1, e.2) (refl, inl c.in_err-pass.ensures.checked)
-
-pub returns-in_err-set_capacity : goal.returns-in_err-set_capacity
-returns-in_err-set_capacity g c =
-    let e = err_from_is_err_and c.from_residual-in_err-set_capacity.result c.from_residual-in_err-set_capacity.ensures.1 in
-    let h = c.in_err-set_capacity.ensures.set in
-    rw (e.1, e.2) (refl, inr (c.in_ok-pass.ensures.exactly, h.0, h.1))
 
 pub returns : goal.returns
 returns g c =
@@ -35,7 +24,7 @@ returns g c =
     let bytes : c.set_capacity.new.self.table.bytes.now ≡ bs = ap (λ (t : Table). t.bytes.now) h.table ∙ p.0 in
     let eS : system_in me ≡ S = l.whole (subst Reads (sym bytes) p.2.reads) ∙ ap system_of bytes in
     let ec : me.capacity ≡ cap = l.granted (omega (arith, h.set.1, h.set.2)) ∙ h.set.2 in
-    let answered : c.answer_all.new.answers ≡ filled (answers_to S cap (start S) cs) E = c.answer_all.ensures.answers ∙ ap (λ (a : List Answer). filled a E) (loaded_answers (system_in me) S me.capacity cap (state_in me) eS ec l.state cs) in
+    let answered : c.answer_all.new.answers ≡ filled (answers_to S cap (start S) cs) E = c.answer_all.ensures.answers ∙ ap (λ (a : List (Result Answer Fault)). filled a E) (loaded_answers (system_in me) S me.capacity cap (state_in me) eS ec l.state cs) in
     record {
       passes = p.2;
       some = h.set.0;

@@ -1,4 +1,5 @@
-use Rattle.std.proofs.Common.{◌≡◌, min, List, length, refl, ap, ◌∙◌}
+use Rattle.std.proofs.Common.{◌≡◌, min, List, Result, length, refl, ap, ◌∙◌}
+use Rattle.model.specs.declared.fault.Fault.{Fault}
 use Rattle.model.specs.State.{start}
 use Rattle.table.specs.SystemOf.{system_of}
 use Rattle.table.specs.declared.view.Table.{Table}
@@ -18,7 +19,7 @@ returns c =
     let cs = made c.args.calls.now E in
     let l = c.load-controller.ensures in
     let eS : system_in me ≡ S = ap (λ (t : Table). hosted (system_of t.bytes.now)) l.table in
-    let answered : c.answer_all.new.answers ≡ filled (answers_to S cap (start S) cs) E = c.answer_all.ensures.answers ∙ ap (λ (a : List Answer). filled a E) (loaded_answers (system_in me) S me.capacity cap (state_in me) eS l.capacity l.state cs) in
+    let answered : c.answer_all.new.answers ≡ filled (answers_to S cap (start S) cs) E = c.answer_all.ensures.answers ∙ ap (λ (a : List (Result Answer Fault)). filled a E) (loaded_answers (system_in me) S me.capacity cap (state_in me) eS l.capacity l.state cs) in
     let stands : state_in c.answer_all.new.self ≡ after S cap (start S) cs = c.answer_all.ensures.state ∙ loaded_after (system_in me) S me.capacity cap (state_in me) eS l.capacity l.state cs in
     record {
       answered = answered;

@@ -6,5 +6,5 @@ use Rattle.controller.proofs.held.Controller.answer_all.Given as goal
 abbrev pub invariant-loop-i : goal.invariant-loop-i
 invariant-loop-i l =
     Keeps l.initial.self l.self
-    × (state_in l.self ≡ after (system_in l.initial.self) l.initial.self.capacity (state_in l.initial.self) (take l.i l.calls))
-    × (l.answers ≡ answers_to (system_in l.initial.self) l.initial.self.capacity (state_in l.initial.self) (take l.i l.calls) ++ drop l.i l.initial.answers)
+    × (state_in l.self ≡ after (system_in l.initial.self) l.initial.self.capacity (state_in l.initial.self) (take l.i l.made))
+    × (l.answers ≡ answers_to (system_in l.initial.self) l.initial.self.capacity (state_in l.initial.self) (take l.i l.made) ++ drop l.i l.initial.answers)
