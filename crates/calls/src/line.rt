@@ -6,6 +6,7 @@ ghost use Rattle.calls.specs.Reading.{Asks, Reads, InRange, written};
 use crate::word::after_word;
 use controller::call::Call;
 
+// Four outcomes of one rank; a Result of an Option of a request would name them by three types.
 #[derive(Clone, Copy)]
 pub enum Line {
     // Empty, or a comment.
