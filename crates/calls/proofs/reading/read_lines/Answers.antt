@@ -1,4 +1,4 @@
-use Rattle.std.proofs.Common.{ℕ, List, [], ◌∷◌, Bor, None, sym, subst, rules}
+use Rattle.std.proofs.Common.{◌≡◌, ℕ, List, [], ◌∷◌, Bor, None, sym, subst, rules}
 use Rattle.std.proofs.lemmas.Result.{IfOk-weaker}
 use Rattle.std.specs.Fn.{Called}
 use Rattle.std.specs.Iterator.{YieldsFirstRef, Yields}
@@ -19,6 +19,7 @@ reads_each rest g answers (x ∷ xs) s t u (j, (line, e, called), more) none =
 
 pub returns : goal.returns
 returns c =
+    let whole : (map_source c.map.result).rest.now ≡ c.args.text.now = search rules in
     IfOk-weaker c.collect.result _ (λ v. ReadsAll (lines_of c.args.text.now) v.items)
-    (λ v (xs, (t, steps, ends), made). rw made.0 (rw c.map.ensures.source at (reads_each (λ l. lines_of l.rest.now) _ (λ f x r h p. search rules) xs c.map.result t (ends tt).0 steps (ends tt).1)))
+    (λ v (xs, (t, steps, ends), made). rw made.0 (rw whole at (reads_each (λ l. lines_of l.rest.now) _ (λ f x r h p. search rules) xs c.map.result t (ends tt).0 steps (ends tt).1)))
     c.collect.ensures.ran
