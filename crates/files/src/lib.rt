@@ -9,6 +9,7 @@ use std::io::Read;
 use std::rt::Files;
 
 // The first bytes of a file, one more than `most` at the most.
+// No clause says so: `read_to_end` promises no length where the bytes of its reader are not known.
 fn first_bytes<R: Files + AllocGlobal>(rt: &R, path: &str, most: u64) -> io::Result<Vec<u8>> {
     let mut bytes = Vec::new(rt.alloc());
     File::open(rt, path)?
