@@ -1,7 +1,8 @@
 -- Where a text is cut: at the line feeds, and at the blank between two numbers.
-use Rattle.std.proofs.Common.{◌≡◌, ℕ, suc, ◌+◌, ◌<◌, List, [], ◌∷◌, ◌++◌, length, get_or, take, drop, sym, refl, ap, ◌∙◌, subst, arith, ne_eqb}
+use Rattle.std.proofs.Common.{◌≡◌, ℕ, suc, ◌<◌, List, [], ◌∷◌, ◌++◌, Option, Some, None, MatchOption, Bor, length, get_or, drop, sym, refl, ap, ◌∙◌, subst, arith, ne_eqb}
+use Rattle.std.specs.Option.{unwrap_or}
 use Rattle.std.specs.Str.Parse.{AllDigits}
-use Rattle.std.proofs.lemmas.List.{get_or_at, get_or-take, length-append, length-take-le, take-append-drop, drop_more}
+use Rattle.std.proofs.lemmas.List.{get_or_at, length-append}
 use Rattle.std.proofs.lemmas.Str.Parse.{digit_at}
 use Rattle.calls.specs.Lines.{lines_of, longer, Lacks, Cut}
 use Rattle.calls.specs.Numbers.{Writes, WritesTwo}
@@ -50,19 +51,16 @@ same_two text front rest k m n w =
     let s = same_cut 32 w.first w.second front rest (sym w.split ∙ k.split) (digits_lack w.first w.writes_first.digits.1) k.first in
     (subst (Writes 256 m) s.0 w.writes_first, subst (Writes 256 n) s.1 w.writes_second)
 
--- the parts at the first place of a byte
-pub cut_at : (byte : ℕ) (text : List ℕ) (k : ℕ) → k < length text → get_or text k 0 ≡ byte → ((i : ℕ) → i < k → get_or text i 0 ≡ byte → ⊥) → Cut byte text (take k text) (drop (k + 1) text)
-cut_at byte text k l e before =
-    record {
-      split = sym (take-append-drop k text) ∙ ap (λ t. take k text ++ t) (drop_more text k 0 l ∙ ap (λ b. b ∷ drop (k + 1) text) e);
-      first =
-          λ i h q. let below : i < k = omega (arith, length-take-le k text (omega arith)) in before i below (sym (get_or-take k text i 0 below) ∙ q);
-    }
-
 -- the rest is shorter
 pub cut_shorter : (byte : ℕ) (text front rest : List ℕ) → Cut byte text front rest → length rest < length text
 cut_shorter byte text front rest k =
     omega (arith, ap length k.split, length-append front (byte ∷ rest))
+
+-- the first line is what stands before the first line feed, or the whole text
+pub first_cut : (text : List ℕ) (r : Option (Bor (List ℕ) × Bor (List ℕ))) (whole x : Bor (List ℕ) × Bor (List ℕ)) → 0 < length text → MatchOption r (Lacks 10 text) (λ y. Cut 10 text y.0.now y.1.now) → whole.0.now ≡ text → whole.1.now ≡ [] → x ≡ unwrap_or r whole → (lines_of text ≡ x.0.now ∷ lines_of x.1.now) × (length x.1.now < length text)
+first_cut text (Some y) whole x some k a b e =
+    rw e (ap lines_of k.split ∙ line_to y.0.now y.1.now k.first, cut_shorter 10 text y.0.now y.1.now k)
+first_cut text None whole x some none a b e = rw (e, a, b) (last_line text some none, some)
 
 -- digits write one number
 pub same_number : (limit m n : ℕ) (ds : List ℕ) → Writes limit m ds → Writes limit n ds → m ≡ n

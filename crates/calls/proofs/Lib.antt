@@ -1,4 +1,3 @@
 pub mod Cuts
 pub mod Parts
 pub mod Sayings
-pub mod Values

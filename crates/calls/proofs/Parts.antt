@@ -9,7 +9,7 @@ pub same_rest : (line word x y : List ℕ) → line ≡ word ++ x → line ≡ w
 same_rest line word x y p q = sym (front_rest line word x p) ∙ front_rest line word y q
 
 -- what is found after the word is found in the rest
-pub after_word : {X : Type 0} (P : X → List ℕ → Type 0) (line word rest : List ℕ) → line ≡ word ++ rest → (r : Option X) → Finds (λ x. P x rest) r → Finds (λ x. After word (P x) line) r
-after_word P line word rest e (Some x) h = record { rest = rest; split = e; holds = h }
-after_word P line word rest e None none =
+pub found_after : {X : Type 0} (P : X → List ℕ → Type 0) (line word rest : List ℕ) → line ≡ word ++ rest → (r : Option X) → Finds (λ x. P x rest) r → Finds (λ x. After word (P x) line) r
+found_after P line word rest e (Some x) h = record { rest = rest; split = e; holds = h }
+found_after P line word rest e None none =
     λ x a. none x (subst (P x) (same_rest line word a.rest rest a.split e) a.holds)

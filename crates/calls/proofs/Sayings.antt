@@ -1,5 +1,5 @@
 -- A line says one thing at the most.
-use Rattle.std.proofs.Common.{◌≡◌, ℕ, ◌<◌, List, ◌∷◌, ◌++◌, get_or, codes, decimal, sym, refl, ap, ◌∙◌, subst, arith}
+use Rattle.std.proofs.Common.{◌≡◌, ℕ, ◌+◌, ◌<◌, List, ◌∷◌, ◌++◌, get_or, codes, decimal, sym, refl, ap, ◌∙◌, subst, arith}
 use Rattle.std.proofs.lemmas.Fmt.{decimal_is_IsNumeral}
 use Rattle.controller.specs.declared.call.Call.{Call}
 use Rattle.controller.specs.declared.call.Call.TheVariants.{Fire, Reset, Look}
@@ -10,13 +10,17 @@ use Rattle.calls.specs.Reading.{After, Asks, Says, Reads, InRange, written}
 use Rattle.calls.proofs.Cuts.{same_number, same_numbers}
 use Rattle.calls.proofs.Parts.{same_rest}
 
+-- how far the byte that a line begins with, if it asks for this, is above 100
+abbrev above : Call → ℕ
+above (Fire r) = 2
+above Reset = 14
+above (Look m p) = 8
+
 -- the byte that a line begins with, if it says this
 abbrev letter : Line → ℕ
 letter Skipped = 35
 letter (Capacity n) = 99
-letter (Asked (Fire r)) = 102
-letter (Asked Reset) = 114
-letter (Asked (Look m p)) = 108
+letter (Asked call) = 100 + above call
 letter NotUnderstood = 0
 
 begins : (line : List ℕ) (s : Line) → Says line s → get_or line 0 35 ≡ letter s
@@ -43,34 +47,10 @@ one line (Asked (Look m a)) (Asked (Look n b)) p q e =
     let s = same_numbers 256 m a n b q.rest (same_after (codes "look ") line (WritesTwo 256 m a) (WritesTwo 256 n b) p q) q.holds in
     let x = s.0 in
     let y = s.1 in cc
-one line Skipped (Capacity n) p q e = absurd (omega arith)
-one line Skipped (Asked (Fire n)) p q e = absurd (omega arith)
-one line Skipped (Asked Reset) p q e = absurd (omega arith)
-one line Skipped (Asked (Look n b)) p q e = absurd (omega arith)
-one line Skipped NotUnderstood p q e = absurd q
-one line (Capacity m) Skipped p q e = absurd (omega arith)
-one line (Capacity m) (Asked (Fire n)) p q e = absurd (omega arith)
-one line (Capacity m) (Asked Reset) p q e = absurd (omega arith)
-one line (Capacity m) (Asked (Look n b)) p q e = absurd (omega arith)
-one line (Capacity m) NotUnderstood p q e = absurd q
-one line (Asked (Fire m)) Skipped p q e = absurd (omega arith)
-one line (Asked (Fire m)) (Capacity n) p q e = absurd (omega arith)
-one line (Asked (Fire m)) (Asked Reset) p q e = absurd (omega arith)
-one line (Asked (Fire m)) (Asked (Look n b)) p q e = absurd (omega arith)
-one line (Asked (Fire m)) NotUnderstood p q e = absurd q
-one line (Asked Reset) Skipped p q e = absurd (omega arith)
-one line (Asked Reset) (Capacity n) p q e = absurd (omega arith)
-one line (Asked Reset) (Asked (Fire n)) p q e = absurd (omega arith)
-one line (Asked Reset) (Asked (Look n b)) p q e = absurd (omega arith)
-one line (Asked Reset) NotUnderstood p q e = absurd q
-one line (Asked (Look m a)) Skipped p q e = absurd (omega arith)
-one line (Asked (Look m a)) (Capacity n) p q e = absurd (omega arith)
-one line (Asked (Look m a)) (Asked (Fire n)) p q e = absurd (omega arith)
-one line (Asked (Look m a)) (Asked Reset) p q e = absurd (omega arith)
-one line (Asked (Look m a)) NotUnderstood p q e = absurd q
-one line NotUnderstood t p q e = absurd p
+one line NotUnderstood NotUnderstood p q e = refl
+one line _ _ p q e = absurd (omega arith)
 
-pub says_one : (line : List ℕ) (s t : Line) → Says line s → Says line t → s ≡ t
+says_one : (line : List ℕ) (s t : Line) → Says line s → Says line t → s ≡ t
 says_one line s t p q = one line s t p q (sym (begins line s p) ∙ begins line t q)
 
 -- what is not skipped, sets no capacity and asks for nothing says nothing
@@ -81,14 +61,14 @@ says_nothing line skip capacity call (Asked x) h = call x h
 says_nothing line skip capacity call NotUnderstood h = h
 
 -- a line that says something reads as that alone
-pub reads_one : (line : List ℕ) (s : Line) → Says line s → (other : Line) → Reads line other → other ≡ s
+reads_one : (line : List ℕ) (s : Line) → Says line s → (other : Line) → Reads line other → other ≡ s
 reads_one line s h Skipped r = says_one line Skipped s r h
 reads_one line s h (Capacity n) r = says_one line (Capacity n) s r h
 reads_one line s h (Asked call) r = says_one line (Asked call) s r h
 reads_one line s h NotUnderstood r = absurd (r s h)
 
 -- a line that says nothing is not understood
-pub reads_none : (line : List ℕ) → ((other : Line) → Says line other → ⊥) → (other : Line) → Reads line other → other ≡ NotUnderstood
+reads_none : (line : List ℕ) → ((other : Line) → Says line other → ⊥) → (other : Line) → Reads line other → other ≡ NotUnderstood
 reads_none line h Skipped r = absurd (h Skipped r)
 reads_none line h (Capacity n) r = absurd (h (Capacity n) r)
 reads_none line h (Asked call) r = absurd (h (Asked call) r)
@@ -106,7 +86,7 @@ writes_decimal limit n small top =
     let d = decimal_is_IsNumeral n (omega arith) in record { digits = d.0; is = d.1; small = small }
 
 -- a call is read as it is written
-pub asks_written : (call : Call) → InRange call → Asks (written call) call
+asks_written : (call : Call) → InRange call → Asks (written call) call
 asks_written (Fire r) small =
     record { rest = decimal r; split = refl; holds = writes_decimal 65536 r small (omega arith) }
 asks_written Reset small = refl
@@ -125,6 +105,23 @@ asks_written (Look m p) small =
     }
 
 -- a line in which a call is written reads as that call
-pub reads_back : (line : List ℕ) (r : Line) → ((other : Line) → Reads line other → other ≡ r) → (call : Call) → InRange call → line ≡ written call → r ≡ Asked call
+reads_back : (line : List ℕ) (r : Line) → ((other : Line) → Reads line other → other ≡ r) → (call : Call) → InRange call → line ≡ written call → r ≡ Asked call
 reads_back line r only call small e =
     sym (only (Asked call) (subst (λ (l : List ℕ). Asks l call) (sym e) (asks_written call small)))
+
+reads_said : (line : List ℕ) (s : Line) → Says line s → Reads line s
+reads_said line Skipped h = h
+reads_said line (Capacity n) h = h
+reads_said line (Asked call) h = h
+reads_said line NotUnderstood h = absurd h
+
+-- what is promised of a line that says something, and of one that says nothing
+pub said : (line : List ℕ) (s : Line) → Says line s → record { reads : Reads line s; only : (other : Line) → Reads line other → other ≡ s; back : (call : Call) → InRange call → line ≡ written call → s ≡ Asked call }
+said line s h =
+    let only = reads_one line s h in
+    record { reads = reads_said line s h; only = only; back = reads_back line s only }
+
+pub unsaid : (line : List ℕ) → ((other : Line) → Says line other → ⊥) → record { reads : Reads line NotUnderstood; only : (other : Line) → Reads line other → other ≡ NotUnderstood; back : (call : Call) → InRange call → line ≡ written call → NotUnderstood ≡ Asked call }
+unsaid line h =
+    let only = reads_none line h in
+    record { reads = h; only = only; back = reads_back line NotUnderstood only }

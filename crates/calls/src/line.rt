@@ -3,9 +3,10 @@ ghost use Rattle.std.specs.Prelude.{◌≡◌, ℕ, Decides, slice_index_or};
 ghost use Rattle.calls.specs.Numbers.{Finds};
 ghost use Rattle.calls.specs.Reading.{Asks, Reads, InRange, written};
 
-use crate::word::{number_after, small_number_after, two_numbers_after};
+use crate::word::after_word;
 use controller::call::Call;
 
+// Four outcomes of one rank; a Result of an Option of a request would name them by three types.
 #[derive(Clone, Copy)]
 pub enum Line {
     // Empty, or a comment.
@@ -19,10 +20,7 @@ pub enum Line {
 fn is_skipped(line: &[u8]) -> bool
     ensures { Decides result (slice_index_or line.now 0 35 ≡ 35) }
 {
-    match line.first() {
-        Some(byte) => *byte == b'#',
-        None => true,
-    }
+    line.first().is_none_or(|byte| *byte == b'#')
 }
 
 // The call that a line asks for.
@@ -32,10 +30,10 @@ fn read_call(line: &[u8]) -> Option<Call>
     if line == b"reset".as_slice() {
         return Some(Call::Reset);
     }
-    if let Some(rule) = number_after(line, b"fire ") {
+    if let Some(rule) = after_word(line, b"fire ") {
         return Some(Call::Fire { rule });
     }
-    let (machine, place) = two_numbers_after(line, b"look ")?;
+    let (machine, place) = after_word(line, b"look ")?;
     Some(Call::Look { machine, place })
 }
 
@@ -48,7 +46,7 @@ pub fn read_line(line: &[u8]) -> Line
     if is_skipped(line) {
         return Line::Skipped;
     }
-    if let Some(capacity) = small_number_after(line, b"capacity ") {
+    if let Some(capacity) = after_word(line, b"capacity ") {
         return Line::Capacity(capacity);
     }
     match read_call(line) {

@@ -1,37 +1,43 @@
-// Decimal numbers in text.
-ghost use Rattle.calls.specs.Numbers.{Finds, Writes};
+// Numbers in text.
+ghost use Rattle.std.specs.Prelude.{ℕ, List};
+ghost use Rattle.calls.specs.Numbers.{Finds, Writes, WritesTwo};
 
-const MOST: u32 = 65_535;
+use crate::lines::cut;
 
-const MOST_SMALL: u16 = 255;
+// What a text can write.
+pub(crate) trait Written: Sized {
+    ghost writes: { Self → List ℕ → Type 0 };
 
-// The number that digits write, if they are digits and it has at most 16 bits.
-pub(crate) fn number(digits: &[u8]) -> Option<u16>
-    ensures { Finds (λ n. Writes 65536 n digits.now) result }
-{
-    if digits.is_empty() {
-        return None;
-    }
-    let mut number = 0u32;
-    for digit in digits {
-        if !digit.is_ascii_digit() {
-            return None;
-        }
-        number = number * 10 + u32::from(*digit - b'0');
-        if number > MOST {
-            return None;
-        }
-    }
-    Some(number as u16)
+    fn read(text: &[u8]) -> Option<Self>
+        ensures { Finds (λ x. writes x text.now) result };
 }
 
-// The same of a number of 8 bits.
-pub(crate) fn small_number(digits: &[u8]) -> Option<u8>
-    ensures { Finds (λ n. Writes 256 n digits.now) result }
-{
-    let wide = number(digits)?;
-    if wide > MOST_SMALL {
-        return None;
+impl Written for u16 {
+    ghost writes = { Writes 65536 };
+
+    fn read(text: &[u8]) -> Option<u16> {
+        // `parse` would take a sign too.
+        if !text.iter().all(u8::is_ascii_digit) {
+            return None;
+        }
+        str::from_utf8(text).ok()?.parse().ok()
     }
-    Some(wide as u8)
+}
+
+impl Written for u8 {
+    ghost writes = { Writes 256 };
+
+    fn read(text: &[u8]) -> Option<u8> {
+        u8::try_from(u16::read(text)?).ok()
+    }
+}
+
+// Two numbers with a blank between them.
+impl Written for (u8, u8) {
+    ghost writes = { λ x. WritesTwo 256 x.0 x.1 };
+
+    fn read(text: &[u8]) -> Option<(u8, u8)> {
+        let (front, rest) = cut(text, b' ')?;
+        Some((u8::read(front)?, u8::read(rest)?))
+    }
 }

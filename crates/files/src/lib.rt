@@ -14,6 +14,7 @@ pub const MOST_TABLE_BYTES: u64 = 4_096;
 pub const MOST_SET_BYTES: u64 = 65_536;
 
 // The first bytes of a file, one more than `most` at the most.
+// No clause says so: `read_to_end` promises no length where the bytes of its reader are not known.
 fn first_bytes<R: Files + AllocGlobal>(rt: &R, path: &str, most: u64) -> io::Result<Vec<u8>> {
     let mut bytes = Vec::new(rt.alloc());
     File::open(rt, path)?

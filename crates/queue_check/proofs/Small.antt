@@ -1,7 +1,7 @@
 -- The values of a fault fit their places. Assumes nothing.
-use Rattle.std.proofs.Common.{◌≡◌, ℕ, zero, suc, ◌+◌, ◌-◌, ◌*◌, ◌/◌, ◌%◌, ◌^◌, ◌<◌, ◌≤◌, Bool, true, false, cond, ◌&&◌, eqb, ltb, leb, List, [], ◌∷◌, map, length, sym, refl, subst, inl, inr, arith, length-append}
+use Rattle.std.proofs.Common.{◌≡◌, ℕ, zero, suc, ◌+◌, ◌-◌, ◌*◌, ◌/◌, ◌%◌, ◌^◌, ◌<◌, ◌≤◌, Bool, true, false, cond, ◌&&◌, eqb, ltb, leb, List, [], ◌∷◌, map, length, sym, refl, subst, inl, inr, Result, Ok, Err, IfErr, arith, length-append}
 use lib.ListN.{length-map}
-use Rattle.std.proofs.lemmas.Bool.{cases_Bool, cases_eq, eq-eqb, ne_eqb, leb-true}
+use Rattle.std.proofs.lemmas.Bool.{cond_both, leb-true}
 use Rattle.std.proofs.lemmas.List.FromFn.{length-map-range_with_len}
 use Rattle.model.specs.declared.fault.Fault.{Fault}
 use Rattle.model.specs.declared.fault.Refusal.{Refusal}
@@ -14,7 +14,7 @@ use Rattle.model.specs.Order.{Order, one, ◌then◌, each, First, FirstFault}
 use Rattle.table.specs.Bytes.{byte_at, word_at}
 use Rattle.table.specs.Header.{fault_at}
 use Rattle.table.specs.Layout.{machines_n, pattern_lines_n, machine_offset, rule_offset, pattern_offset}
-use Rattle.table.specs.SystemOf.{system_of, pattern_count, number_of}
+use Rattle.table.specs.SystemOf.{system_of, pattern_count}
 use Rattle.table.proofs.Parts.{machines_long, rules_long, patterns_long}
 use Rattle.blank_abstraction.specs.Blank.{blank_good, each_event}
 use Rattle.set_abstraction.specs.Set.{absent, set_from, set_good}
@@ -22,11 +22,12 @@ use Rattle.list_abstraction.specs.List.{unpack, pack, insertions, removals_of, l
 use Rattle.keep_first.specs.KeepFirst.{begun, keep_bits, kept, keep_taken}
 use Rattle.closed_sets.specs.Records.{Record, record_of}
 use Rattle.closed_sets.specs.Judging.{outcomes}
+use Rattle.checker.specs.declared.pass.Pass.{Pass}
+use Rattle.checker.specs.Promise.{Checked}
 use Rattle.checker.specs.Verdict.{Applies, numbers, order}
 use Rattle.checker.proofs.Read.{records_long}
 use Rattle.queue_check.specs.Layers.{Layers, list, mask, blank, keeping, of_kind, under, named, claim_under}
 use Rattle.queue_check.specs.Packed.{Fits}
-use Rattle.queue_check.proofs.Named.{kind_list, kind_mask, kind_blank, kept_none, kept_one, kept_two}
 
 -- what holds of every finding of an order holds of the first that applies
 module _ {F : Type 0} (P : F → Type 0) where
@@ -46,8 +47,7 @@ abbrev pub Few : ℕ → Layers → Type 0
 Few n L = (m c : ℕ) → length (L.removals m c) ≤ n
 
 cond_few : {X : Type 0} (n : ℕ) (b : Bool) (xs : List X) → (b ≡ true → length xs ≤ n) → length (cond b xs []) ≤ n
-cond_few n true xs h = h refl
-cond_few n false xs h = omega arith
+cond_few n b xs h = cond_both b xs [] (λ l. length l ≤ n) h (λ _. omega arith)
 
 -- the second of three tests
 second : (x y z : Bool) → (x && y && z) ≡ true → y ≡ true
@@ -71,10 +71,7 @@ mask_few m c = cond_few 16 (set_good m c) (set_from c 0 m) (λ e. omega (arith, 
 
 unpack_few : (n c : ℕ) → length (unpack n c) ≤ n
 unpack_few zero c = omega arith
-unpack_few (suc n) c = elim (cases_Bool (eqb (c % 16) 0)) [
-  | inl e ↦ subst (λ (b : Bool). length (cond b [] ((c % 16 - 1) ∷ unpack n (c / 16))) ≤ suc n) (sym e) (omega arith)
-  | inr e ↦ subst (λ (b : Bool). length (cond b [] ((c % 16 - 1) ∷ unpack n (c / 16))) ≤ suc n) (sym e) (omega (arith, unpack_few n (c / 16)))
-]
+unpack_few (suc n) c = cond_both (eqb (c % 16) 0) [] ((c % 16 - 1) ∷ unpack n (c / 16)) (λ l. length l ≤ suc n) (λ _. omega arith) (λ _. omega (arith, unpack_few n (c / 16)))
 
 insertions_few : (e : ℕ) (L : List ℕ) → length (insertions e L) ≤ length L + 1
 insertions_few e [] = omega arith
@@ -98,27 +95,16 @@ keeping_few n L f m c =
     (λ _. omega (arith, length-append (cond (eqb (L.code m []) b) none []) (map (kept e) (L.removals m b)), cond_few 1 (eqb (L.code m []) b) none (λ _. omega arith), length-map (L.removals m b) (kept e), f m b))
 
 kind_few : (k : ℕ) → Few 16 (of_kind k)
-kind_few k = elim (cases_eq k 0) [
-  | inl e ↦ subst (Few 16) (sym (kind_list k e)) list_few
-  | inr ne ↦ elim (cases_eq k 1) [
-    | inl e ↦ subst (Few 16) (sym (kind_mask k e)) mask_few
-    | inr no_one ↦ subst (Few 16) (sym (kind_blank k ne no_one)) blank_few
-  ]
-]
+kind_few k = cond_both (eqb k 0) list _ (Few 16) (λ _. list_few) (λ _. cond_both (eqb k 1) mask blank (Few 16) (λ _. mask_few) (λ _. blank_few))
 
 few_more : (n k : ℕ) (L : Layers) → n ≤ k → Few n L → Few k L
 few_more n k L h f m c = omega (arith, f m c)
 
 under_few : (k : ℕ) (L : Layers) → Few 16 L → Few 18 (under k L)
-under_few k L f = elim (cases_eq k 0) [
-  | inl e ↦ subst (Few 18) (sym (kept_none k L e)) (few_more 16 18 L (omega arith) f)
-  | inr ne ↦ elim (cases_eq k 1) [
-    | inl e ↦ subst (Few 18) (sym (kept_one k L e)) (few_more 17 18 (keeping L) (omega arith) (keeping_few 16 L f))
-    | inr no_one ↦ subst (Few 18) (sym (kept_two k L ne no_one)) (keeping_few 17 (keeping L) (keeping_few 16 L f))
-  ]
-]
+under_few k L f = cond_both (eqb k 0) L _ (Few 18) (λ _. few_more 16 18 L (omega arith) f)
+    (λ _. cond_both (eqb k 1) (keeping L) (keeping (keeping L)) (Few 18) (λ _. few_more 17 18 (keeping L) (omega arith) (keeping_few 16 L f)) (λ _. keeping_few 17 (keeping L) (keeping_few 16 L f)))
 
-pub named_few : (set : List ℕ) → Few 18 (named set)
+named_few : (set : List ℕ) → Few 18 (named set)
 named_few set = under_few (word_at set 4) (of_kind (word_at set 2)) (kind_few (word_at set 2))
 
 module _ (table set : List ℕ) (low_table : (i : ℕ) → byte_at table i < 256) (low_set : (i : ℕ) → byte_at set i < 256) where
@@ -132,10 +118,7 @@ module _ (table set : List ℕ) (low_table : (i : ℕ) → byte_at table i < 256
   place n a h = record { a = h; b = omega arith; c = omega arith }
 
   few_patterns : pattern_count table < 65536
-  few_patterns = elim (cases_eq (pattern_lines_n table) 0) [
-    | inl z ↦ (let none : pattern_count table ≡ 0 = simp (eq-eqb (pattern_lines_n table) 0 z) in omega arith)
-    | inr ne ↦ (let count : pattern_count table ≡ number_of table (pattern_lines_n table - 1) + 1 = simp (ne_eqb (pattern_lines_n table) 0 ne) in omega (arith, low_table (pattern_offset table (pattern_lines_n table - 1))))
-  ]
+  few_patterns = cond_both (eqb (pattern_lines_n table) 0) 0 _ (λ n. n < 65536) (λ _. omega arith) (λ _. omega (arith, low_table (pattern_offset table (pattern_lines_n table - 1))))
 
   outcomes_few : (r : Record) (x : Rule) (a : Action) → outcomes (claim_under table set (named set)) r x a ≤ 18
   outcomes_few r x Local = omega arith
@@ -174,7 +157,11 @@ module _ (table set : List ℕ) (low_table : (i : ℕ) → byte_at table i < 256
         ),
       )
 
-  pub fault_fits : (f : Fault) → FirstFault (Applies table set (claim_under table set (named set))) (numbers table) (order table set (claim_under table set (named set))) f → Fits f
+  fault_fits : (f : Fault) → FirstFault (Applies table set (claim_under table set (named set))) (numbers table) (order table set (claim_under table set (named set))) f → Fits f
   fault_fits f h =
       let T = claim_under table set (named set) in
       subst Fits (sym h.numbered) (first_all (λ g. Fits (numbers table g)) (Applies table set T) (order table set T) h.finding h.first all_fit)
+
+  pub checked_fits : (r : Result Pass Fault) → Checked table set (claim_under table set (named set)) r → IfErr r Fits
+  checked_fits (Ok p) h = tt
+  checked_fits (Err f) h = fault_fits f h.1

@@ -7,6 +7,8 @@ use Rattle.list_abstraction.specs.List.{list_code, list_removals}
 use Rattle.keep_first.specs.KeepFirst.{keep_bits, keep_code, keep_removals}
 use Rattle.closed_sets.specs.Records.{Claim}
 use Rattle.checker.specs.SetFile.{claim_of}
+use Rattle.queue_check.specs.declared.kind.Kind.{Kind}
+use Rattle.queue_check.specs.declared.kind.Kind.TheVariants.{List as ListKind, Set as SetKind, Blank as BlankKind}
 
 -- what an abstraction is to a claim: its width, its codes and its removals
 pub record Layers : Type 0 where
@@ -22,6 +24,12 @@ mask = record { width = 8; code = set_code; removals = set_removals }
 
 abbrev pub blank : Layers
 blank = record { width = 0; code = λ m Q. 0; removals = blank_removals }
+
+-- the layers of each kind
+abbrev pub layers_of : Kind → Layers
+layers_of ListKind = list
+layers_of SetKind = mask
+layers_of BlankKind = blank
 
 -- one layer that keeps the first event
 abbrev pub keeping : Layers → Layers

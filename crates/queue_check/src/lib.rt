@@ -7,6 +7,9 @@ ghost use Rattle.checker.specs.Promise.{Checked};
 ghost use Rattle.queue_check.specs.Packed.{packed, Fits, Answers};
 ghost use Rattle.queue_check.specs.Layers.{Layers, under, of_kind, named, claim_under};
 
+mod kind;
+
+use crate::kind::Kind;
 use abstraction::QueueAbstraction;
 use blank_abstraction::BlankAbstraction;
 use checker::check::check;
@@ -47,14 +50,15 @@ fn check_kept<'a, A: QueueAbstraction + Copy>(
 pub fn check_files<'a>(table: &'a [u8], set: &[u8]) -> Result<Pass<'a>, Fault>
     ensures { Checked table.now set.now (claim_under table.now set.now (named set.now)) result }
 {
-    match word(set, KIND) {
-        0 => check_kept(table, set, ListAbstraction),
-        1 => check_kept(table, set, SetAbstraction),
-        _ => check_kept(table, set, BlankAbstraction),
+    match Kind::from(word(set, KIND)) {
+        Kind::List => check_kept(table, set, ListAbstraction),
+        Kind::Set => check_kept(table, set, SetAbstraction),
+        Kind::Blank => check_kept(table, set, BlankAbstraction),
     }
 }
 
 // A fault as one number: the refusal's number in eight bits, A in twenty-four, B in sixteen, C in sixteen.
+// A `From` may require nothing, and both of its types would be other crates'.
 fn pack(fault: Fault) -> u64
     requires { Fits fault }
     ensures { result ≡ packed fault }
@@ -69,8 +73,5 @@ fn pack(fault: Fault) -> u64
 pub fn queue_check(table: &[u8], set: &[u8]) -> u64
     ensures { Answers table.now set.now (claim_under table.now set.now (named set.now)) result }
 {
-    match check_files(table, set) {
-        Ok(_) => 0,
-        Err(fault) => pack(fault),
-    }
+    check_files(table, set).map_or_else(pack, |_| 0)
 }

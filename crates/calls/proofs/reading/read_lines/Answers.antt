@@ -1,21 +1,25 @@
-use Rattle.std.proofs.Common.{◌≡◌, ℕ, List, [], ◌∷◌, ◌++◌, vec_items, sym, ap, ◌∙◌, subst, append_assoc, append-nil}
-use Rattle.std.proofs.lemmas.List.{nil_from_length}
+use Rattle.std.proofs.Common.{◌≡◌, ℕ, List, [], ◌∷◌, Bor, None, sym, subst, rules}
+use Rattle.std.proofs.lemmas.Result.{IfOk-weaker}
+use Rattle.std.specs.Fn.{Called}
+use Rattle.std.specs.Iterator.{YieldsFirstRef, Yields}
+use Rattle.std.specs.Iterator.Adapters.{map_source, map_steps}
+use Rattle.std.specs.declared.iter.Map.{Map}
+use denote.Param.Members.{Mut}
 use Rattle.calls.specs.declared.line.Line.{Line}
 use Rattle.calls.specs.Lines.{lines_of}
 use Rattle.calls.specs.Reading.{Reads, ReadsAll}
 use Rattle.calls.proofs.reading.read_lines.Goals as goal
 
--- one reading more
-one_more : (all lines : List (List ℕ)) (line : List ℕ) (after : List (List ℕ)) (xs ys : List Line) (x : Line) → ((more : List Line) → ReadsAll lines more → ReadsAll all (xs ++ more)) → lines ≡ line ∷ after → Reads line x → ys ≡ xs ++ (x ∷ []) → (more : List Line) → ReadsAll after more → ReadsAll all (ys ++ more)
-one_more all lines line after xs ys x inv cut reads e more h =
-    let grown = inv (x ∷ more) (subst (λ (ls : List (List ℕ)). ReadsAll ls (x ∷ more)) (sym cut) (reads, h)) in
-    subst (λ (rs : List Line). ReadsAll all rs) (sym (ap (λ l. l ++ more) e ∙ append_assoc xs (x ∷ []) more)) grown
-
-pub loop-line-preserved : goal.loop-line-preserved
-loop-line-preserved c =
-    one_more (lines_of c.args.text.now) (lines_of c.loop-line.rest.now) c.in-Some.line.now (lines_of c.in-Some.after.now) (vec_items c.loop-line.readings) (vec_items c.push.new.self) c.read_line.result c.loop-line.invariant c.in-Some.ensures.0 c.read_line.ensures.reads c.in_ok-push.ensures.items
+-- the answers at the lines that come read those that are left
+reads_each : {S F : Type 0} (rest : S → List (List ℕ)) (g : Mut F (Bor (List ℕ) × Unit {0}) Line) → ((f : F) (x : Bor (List ℕ)) (r : Line) (h : F) → Called g f (x, tt) r h → Reads x.now r) → (xs : List Line) (s t u : Map S F) → Yields (map_steps (YieldsFirstRef rest) g) s xs t → map_steps (YieldsFirstRef rest) g t None u → ReadsAll (rest (map_source s)) xs
+reads_each rest g answers [] s t u e none =
+    subst (λ (m : Map _ _). ReadsAll (rest (map_source m)) []) (sym e) (rw none.0.0 tt)
+reads_each rest g answers (x ∷ xs) s t u (j, (line, e, called), more) none =
+    rw e (answers _ _ _ _ called, reads_each rest g answers xs j t u more none)
 
 pub returns : goal.returns
 returns c =
-    let P : List ℕ → Type 0 = λ l. ReadsAll (lines_of l) [] in
-    subst (λ (rs : List Line). ReadsAll (lines_of c.args.text.now) rs) (append-nil (vec_items c.loop-line.readings)) (c.loop-line.invariant [] (subst P (sym (nil_from_length c.loop-line.rest.now c.in_default.ensures)) tt))
+    let whole : (map_source c.map.result).rest.now ≡ c.args.text.now = search rules in
+    IfOk-weaker c.collect.result _ (λ v. ReadsAll (lines_of c.args.text.now) v.items)
+    (λ v (xs, (t, steps, ends), made). rw made.0 (rw whole at (reads_each (λ l. lines_of l.rest.now) _ (λ f x r h p. search rules) xs c.map.result t (ends tt).0 steps (ends tt).1)))
+    c.collect.ensures.ran
