@@ -1,7 +1,7 @@
 // A record of a set, held outside of its bytes.
 ghost use Rattle.std.specs.Prelude.{◌≡◌, ◌≤◌, length};
 
-pub const MOST_MACHINES: usize = 6;
+use table::layout::MOST_MACHINES;
 
 // What a record says of one machine.
 #[derive(Clone, Copy, PartialEq, Eq)]

@@ -2,12 +2,15 @@
 ghost use Rattle.std.specs.Prelude.{◌≡◌, ℕ, ◌+◌, ◌-◌, ◌*◌, ◌%◌, ◌^◌, ◌<◌, length, set as put, slice_index};
 ghost use Rattle.checker.specs.Hints.{slot_of};
 
+use table::layout::{MOST_PATTERN_LINES, MOST_RULES};
+
 // The outcomes of a rule that have a hint of their own.
 const OUTCOMES: u64 = 8;
 
-const RULES: u16 = 256;
+const RULES: u16 = MOST_RULES as u16;
 
-const PATTERNS: u16 = 64;
+// a pattern has a line of its own
+const PATTERNS: u16 = MOST_PATTERN_LINES as u16;
 
 const SLOTS: usize = RULES as usize * OUTCOMES as usize;
 

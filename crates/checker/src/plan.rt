@@ -11,11 +11,8 @@ use crate::parts::{ReadTable, takes};
 use model::pattern::Condition;
 use model::queue::Front;
 use model::rule::{Action, Rule};
+use table::layout::{MOST_PATTERN_LINES, MOST_RULES};
 use table::line::PatternLine;
-
-const MOST_RULES: usize = 256;
-
-const MOST_LINES: usize = 64;
 
 // The pairs of a machine and a local state, and those with an event.
 const CELLS: usize = 256;
@@ -43,7 +40,7 @@ pub(crate) struct Plan {
     chains: Chains,
     // a rule by which a machine in a local state may take an event: a hint
     takers: [Option<u16>; TAKER_CELLS],
-    lines: [PatternLine; MOST_LINES],
+    lines: [PatternLine; MOST_PATTERN_LINES],
 }
 
 const NO_LINK: Link = Link {
@@ -139,10 +136,10 @@ impl Plan {
     }
 
     // The pattern lines.
-    fn lines_of(table: &ReadTable<'_>) -> [PatternLine; MOST_LINES]
+    fn lines_of(table: &ReadTable<'_>) -> [PatternLine; MOST_PATTERN_LINES]
         ensures { (l : ℕ) → l < pattern_lines_n table.now.view.bytes.now → slice_index_or result l no_line ≡ pattern_line_at table.now.view.bytes.now (pattern_offset table.now.view.bytes.now l) }
     {
-        let mut lines = [NO_LINE; MOST_LINES];
+        let mut lines = [NO_LINE; MOST_PATTERN_LINES];
         for l in 0..table.view.pattern_line_count() {
             lines[l as usize] = table.pattern_line(l);
         }

@@ -7,10 +7,11 @@ ghost use Rattle.checker.specs.Held.{entry_of, record_in};
 ghost use Rattle.checker.specs.Inner.{Found, ListedIn};
 ghost use Rattle.checker.specs.SetFile.{records_n, long_at, record_at, records_of, SetReady, entry_byte, byte_in, byte_of, record_byte, Before, Same};
 
-use crate::held::{Entry, Held, MOST_MACHINES};
+use crate::held::{Entry, Held};
 use std::cmp::Ordering;
 use table::bytes::word;
 use table::header::HEADER_LENGTH;
+use table::layout::MOST_MACHINES;
 
 // The header field that counts the records.
 const RECORD_COUNT: usize = 10;

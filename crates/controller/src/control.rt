@@ -14,10 +14,11 @@ ghost use Rattle.controller.specs.Views.{system_in, state_in, Keeps};
 
 use crate::call::{Answer, Call, Sight};
 use crate::held::Controller;
-use crate::machines::{MOST_MACHINES, Machines};
+use crate::machines::Machines;
 use checker::pass::{FULL_CAPACITY, Pass};
 use model::fault::{Fault, Refusal};
 use table::header::fault_at;
+use table::layout::MOST_MACHINES;
 use table::view::Table;
 
 // The capacity of a pass, as far as a queue has places.

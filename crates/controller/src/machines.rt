@@ -12,9 +12,7 @@ use model::fault::Refusal;
 use model::rule::{Action, Rule};
 use std::array;
 use std::marker::Model;
-
-// The checker has the same number for its own records, private to it: sharing it would be no plainer.
-pub const MOST_MACHINES: usize = 6;
+use table::layout::MOST_MACHINES;
 
 // The first `count` entries count. Seen as the state that these stand for.
 #[derive(Drop)]

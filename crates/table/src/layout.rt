@@ -10,6 +10,13 @@ pub const RULE_COUNT: usize = 6;
 
 pub const PATTERN_LINE_COUNT: usize = 8;
 
+// The most machines, rules and pattern lines of a table.
+pub const MOST_MACHINES: usize = 6;
+
+pub const MOST_RULES: usize = 256;
+
+pub const MOST_PATTERN_LINES: usize = 64;
+
 // Lengths of the lines.
 pub const MACHINE_LINE: usize = 2;
 

@@ -71,6 +71,7 @@ fn action(kind: u8, event: u8, target: u8) -> Action
 }
 
 // The local state that a condition names, if it names one.
+// No `From`: what a byte stands for is the file's, and both types are other crates'.
 fn local(byte: u8) -> Option<u8>
     ensures { result ≡ local_of byte }
 {

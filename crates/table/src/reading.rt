@@ -9,6 +9,7 @@ ghost use Rattle.table.specs.Reading.{Finds, FirstErr, Reads, Refuses, NoneListe
 ghost use Rattle.table.specs.SystemOf.{system_of};
 
 use crate::header::{FIELDS, HEADER_LENGTH, check_fields, fault_at};
+use crate::layout::{MOST_MACHINES, MOST_PATTERN_LINES, MOST_RULES};
 use crate::view::{Table, machine_offset};
 use model::fault::{Fault, Refusal};
 
@@ -33,10 +34,10 @@ impl<'a> Table<'a> {
         let patterns_at = self.pattern_offset(0);
         [
             (1, 1),
-            (1, 6),
+            (1, MOST_MACHINES as u32),
             (1, 8),
-            (0, 256),
-            (0, 64),
+            (0, MOST_RULES as u32),
+            (0, MOST_PATTERN_LINES as u32),
             (machines_at, machines_at),
             (rules_at, rules_at),
             (patterns_at, patterns_at),
