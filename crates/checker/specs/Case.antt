@@ -10,7 +10,6 @@ use Rattle.checker.specs.Inner.{Judging}
 use Rattle.checker.specs.SetFile.{claim_of, records_n}
 use Rattle.checker.specs.Verdict.{Finding, Applies, numbers}
 use Rattle.checker.specs.declared.case.Case.{Case}
-use Rattle.checker.specs.declared.case.Judge.{Judge}
 use Rattle.checker.specs.declared.case.Judgement.{Judgement}
 
 -- what the set of a case claims of the table's system, under the abstraction

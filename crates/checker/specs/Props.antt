@@ -1,5 +1,5 @@
 -- Facts that have at most one proof, so that a ghost field may hold them. Assumes nothing.
-use Rattle.std.specs.Prelude.{◌≡◌, ℕ, ◌+◌, ◌<◌, ◌≤◌, List, [], ◌∷◌, Option, Some, None, IfSome}
+use Rattle.std.specs.Prelude.{◌≡◌, ℕ, ◌<◌, List, [], ◌∷◌, Option, Some, None}
 use Rattle.std.specs.Coded.{×_prop, Π_prop, →_prop, Unit-prop, le_prop, Coded-set, coded_ℕ}
 use Rattle.std.specs.List.{AllByRecursion-prop}
 use Rattle.std.proofs.Common.{arith, inl, inr}
@@ -13,7 +13,7 @@ use Rattle.model.specs.declared.queue.Front.TheVariants.{Any, Empty, Event}
 use Rattle.model.specs.declared.rule.Action.{Action}
 use Rattle.model.specs.declared.rule.Action.TheVariants.{Local, Take, Send}
 use Rattle.model.specs.declared.rule.Rule.{Rule}
-use Rattle.checker.specs.Plan.{FirstFrom, Planned, Skips}
+use Rattle.checker.specs.Plan.{FirstFrom, Planned}
 use Rattle.checker.specs.Ready.{Ready}
 use Rattle.checker.specs.SetFile.{Before, SetReady}
 use Rattle.checker.specs.declared.plan.Plan.{Plan}

@@ -1,10 +1,9 @@
-use Rattle.std.proofs.Common.{ℕ, List, Err, sym, refl, subst}
+use Rattle.std.proofs.Common.{ℕ, List, Err, refl, subst}
 use Rattle.std.proofs.lemmas.Result.{err_from_is_err_and}
 use Rattle.model.specs.Order.{Nothing, FirstFault}
 use Rattle.model.proofs.Findings.{answered_first, answered_after, answered_under}
 use Rattle.table.specs.Findings as reading
 use Rattle.closed_sets.specs.Records.{Closed}
-use Rattle.checker.specs.Ready.{Ready}
 use Rattle.checker.specs.SetFile.{claim_of}
 use Rattle.checker.specs.Verdict.{Applies, numbers, in_table, table_order, set_order}
 use Rattle.checker.proofs.Whole.{reads_ready, reads_nothing, fails, closed_safe}

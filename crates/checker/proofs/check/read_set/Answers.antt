@@ -1,12 +1,11 @@
-use Rattle.std.proofs.Common.{ℕ, List, Err, sym, subst}
+use Rattle.std.proofs.Common.{ℕ, List, Err, subst}
 use Rattle.std.proofs.lemmas.Result.{err_from_is_err_and}
 use Rattle.model.specs.Order.{Nothing, FirstFault}
 use Rattle.model.proofs.Findings.{answered_first, answered_after, answered_under}
 use Rattle.table.specs.Findings as reading
-use Rattle.checker.specs.Ready.{Ready}
 use Rattle.checker.specs.SetFile.{claim_of}
 use Rattle.checker.specs.Verdict.{Applies, numbers, in_table, table_order, form_order}
-use Rattle.checker.proofs.Whole.{reads_ready, reads_nothing, form_fails}
+use Rattle.checker.proofs.Whole.{reads_nothing, form_fails}
 use Rattle.checker.proofs.check.read_set.Goals as goal
 
 pub returns-in_err-view : goal.returns-in_err-view

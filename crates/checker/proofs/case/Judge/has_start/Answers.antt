@@ -1,5 +1,4 @@
-use Rattle.std.proofs.Common.{◌≡◌, ℕ, List, [], length, replicate, Decides, sym, ap, ◌∙◌, subst, arith}
-use lib.ListN.{length-replicate}
+use Rattle.std.proofs.Common.{◌≡◌, ℕ, List, [], replicate, Decides, sym, ap, ◌∙◌, subst}
 use lib.LanesLaws.{map-replicate}
 use Rattle.model.specs.State.{start}
 use Rattle.model.specs.System.{machines}

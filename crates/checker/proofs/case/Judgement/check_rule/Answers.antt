@@ -1,4 +1,4 @@
-use Rattle.std.proofs.Common.{◌≡◌, ℕ, ◌<◌, length, sym, ap, ◌∙◌, subst, arith}
+use Rattle.std.proofs.Common.{◌≡◌, ℕ, ◌<◌, length, ap, ◌∙◌, subst, arith}
 use Rattle.model.specs.System.{ActionFits}
 use Rattle.model.specs.declared.rule.Action.TheVariants.{Local, Take, Send}
 use Rattle.checker.proofs.Deciding.{entry_is, enabled_at, not_from, judged_one, judged_rule, rule_fits}

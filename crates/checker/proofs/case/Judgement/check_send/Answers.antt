@@ -1,4 +1,4 @@
-use Rattle.std.proofs.Common.{◌≡◌, ℕ, ◌<◌, length, set, sym, refl, ap, ◌∙◌, subst, arith, length-set}
+use Rattle.std.proofs.Common.{◌≡◌, ℕ, ◌<◌, set, sym, refl, ap, ◌∙◌, subst, arith}
 use Rattle.model.specs.System.{machines}
 use Rattle.model.specs.declared.rule.Action.TheVariants.{Send}
 use Rattle.abstraction.specs.Meaning.{Good}

@@ -1,10 +1,8 @@
-use Rattle.std.proofs.Common.{◌≡◌, ℕ, ◌<◌, length, Some, sym, subst, inl, arith, below_more}
-use Rattle.std.proofs.lemmas.List.{length-drop}
+use Rattle.std.proofs.Common.{◌≡◌, ℕ, Some, sym, subst, arith, below_more}
 use Rattle.std.proofs.lemmas.Option.{slice_get_within}
 use Rattle.std.proofs.lemmas.Result.{err_from_is_err_and}
 use Rattle.std.specs.Iterator.Adapters.{enumerate_source, enumerate_count}
 use Rattle.std.specs.List.{slice_get}
-use Rattle.abstraction.proofs.Few.{few}
 use Rattle.checker.proofs.Removing.{step_some, step_none}
 use Rattle.checker.specs.Case.{claim_at, table_at}
 use Rattle.closed_sets.specs.Judging.{Applies, outside}

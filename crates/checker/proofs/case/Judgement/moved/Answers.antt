@@ -1,8 +1,7 @@
-use Rattle.std.proofs.Common.{◌≡◌, length, set, ap, ◌∙◌, length-set}
+use Rattle.std.proofs.Common.{◌≡◌, set, ap, ◌∙◌}
 use Rattle.checker.specs.Held.{record_in}
 use Rattle.closed_sets.specs.Codes.{moved_in}
 use Rattle.closed_sets.specs.Records.{Record, record_of}
-use Rattle.table.proofs.Parts.{machines_long}
 use Rattle.checker.specs.Case.{claim_at, table_at}
 use Rattle.checker.proofs.case.Judgement.moved.Goals as goal
 
