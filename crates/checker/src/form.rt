@@ -78,6 +78,7 @@ impl<A: QueueAbstraction> Case<'_, '_, A> {
         requires sized { length (record_in held.now) ≡ machines_n self.now.table.view.bytes.now }
         ensures { Decides result (Sound (claim A.QueueAbstraction self.now) (record_of (claim A.QueueAbstraction self.now) k)) }
     {
+        // by number, which also says how many local states the machine has
         for i in 0..held.machines {
             if !self.entry_sound(i, held.entry(i)) {
                 return false;

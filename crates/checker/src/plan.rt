@@ -140,6 +140,7 @@ impl Plan {
         ensures { (l : ℕ) → l < pattern_lines_n table.now.view.bytes.now → slice_index_or result l no_line ≡ pattern_line_at table.now.view.bytes.now (pattern_offset table.now.view.bytes.now l) }
     {
         let mut lines = [NO_LINE; MOST_PATTERN_LINES];
+        // lines go by number, and the table may have fewer than there are places
         for l in 0..table.view.pattern_line_count() {
             lines[l as usize] = table.pattern_line(l);
         }

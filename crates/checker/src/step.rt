@@ -177,6 +177,7 @@ impl<A: QueueAbstraction> Judgement<'_, '_, A> {
     {
         let plan = &self.judge.plan;
         let mut next = plan.first(i, self.held.entry(i).local);
+        // a walk along a chain: an iterator over it would be these two steps, and a proof that it ends
         while let Some(r) = next {
             if self.check_rule(hints, r).is_err() {
                 return false;

@@ -58,6 +58,7 @@ impl<A: QueueAbstraction> Judgement<'_, '_, A> {
         requires calm { 0 < self.now.k → Calm (claim_at A.QueueAbstraction self.now) (machines_n (table_at self.now)) last.now }
         ensures { Finds A.QueueAbstraction self.now (surprises (claim_at A.QueueAbstraction self.now) self.now.k) result }
     {
+        // by number, which the refusal gives
         for i in 0..self.held.machines {
             if self.k > 0 && self.held.entry(i) == last.entry(i) {
                 continue;

@@ -4,7 +4,8 @@
 ghost use Rattle.queue_check.specs.Layers.{named, claim_under};
 ghost use Rattle.queue_check.specs.Packed.{Answers};
 
-// The verdict as one number, for C: 0 for a pass, else the packed fault.
+// The verdict as one number, for C: 0 for a pass, else the packed fault. What Rust calls is in `queue_check`: a crate is
+// either a library or one for C.
 #[unsafe(no_mangle)]
 pub extern "C" fn queue_check(table: &[u8], set: &[u8]) -> u64
     ensures { Answers table.now set.now (claim_under table.now set.now (named set.now)) result }
