@@ -1,22 +1,12 @@
 -- The parts of the system that a table stands for. Assumes nothing.
-use Rattle.std.proofs.Common.{◌≡◌, ℕ, ◌<◌, ◌≤◌, List, [], map, length, Some, None, ap, ◌∙◌, arith}
-use Rattle.std.specs.List.{slice_get, range_with_len}
+use Rattle.std.proofs.Common.{◌≡◌, ℕ, ◌<◌, List, [], length, arith}
 use Rattle.std.proofs.lemmas.List.FromFn.{length-map-range_with_len, get_or-map-range_with_len}
-use Rattle.std.proofs.lemmas.Option.{slice_get-get_or, slice_get_past}
+pub use Rattle.model.proofs.Counted.{nth_counted, nth_counted_past}
 use Rattle.model.specs.System.{machines, states_of, rule_of, pattern_of}
 use Rattle.table.specs.Bytes.{byte_at}
 use Rattle.table.specs.Layout.{machines_n, rules_n, pattern_lines_n, machine_offset, rule_offset, pattern_offset}
 use Rattle.table.specs.Lines.{rule_at, pattern_line_at}
 use Rattle.table.specs.SystemOf.{system_of, pattern_lines_of, pattern_count, conditions_of}
-
-module _ {X : Type 0} (f : ℕ → X) (n : ℕ) where
-  pub nth_counted : (k : ℕ) → k < n → slice_get (map f (range_with_len 0 n)) k ≡ Some (f k)
-  nth_counted k h =
-      slice_get-get_or (map f (range_with_len 0 n)) k (f 0) (omega (arith, length-map-range_with_len f 0 n))
-      ∙ ap Some (get_or-map-range_with_len f 0 n k k (f 0) h (omega arith))
-
-  pub nth_counted_past : (k : ℕ) → n ≤ k → slice_get (map f (range_with_len 0 n)) k ≡ None
-  nth_counted_past k h = slice_get_past (map f (range_with_len 0 n)) k (omega (arith, length-map-range_with_len f 0 n))
 
 module _ (bs : List ℕ) where
   pub machines_long : machines (system_of bs) ≡ machines_n bs
