@@ -1,5 +1,5 @@
 -- Masks and queues. Assumes nothing.
-use Rattle.std.proofs.Common.{◌≡◌, ℕ, zero, suc, ◌+◌, ◌*◌, ◌/◌, ◌%◌, ◌^◌, ◌<◌, ◌≤◌, List, [], ◌∷◌, ◌++◌, ap, subst, inl, inr, lt_of_lt_of_le, add-zero, arith, pow_mono}
+use Rattle.std.proofs.Common.{◌≡◌, ℕ, zero, suc, ◌+◌, ◌/◌, ◌%◌, ◌^◌, ◌<◌, ◌≤◌, List, [], ◌∷◌, ap, subst, inl, inr, lt_of_lt_of_le, add-zero, arith, pow_mono}
 use native.Mathlib.Nat.{div-eq_of_lt}
 use Rattle.std.specs.List.{range_with_len}
 use Rattle.std.proofs.lemmas.Nat.{shr_below}
@@ -44,10 +44,6 @@ counting_waits a (suc n) e l h = elim (cases_lt a e) [ inl g ↦ inr (counting_w
 pub counting_over : (m a n : ℕ) → a + n ≤ m → Over m (range_with_len a n)
 counting_over m a zero h = tt
 counting_over m a (suc n) h = (omega arith, counting_over m (a + 1) n (omega arith))
-
-pub over_append : (m e : ℕ) (Q : List ℕ) → Over m Q → e < m → Over m (Q ++ e ∷ [])
-over_append m e [] o h = (h, tt)
-over_append m e (f ∷ Q) o h = (o.0, over_append m e Q o.1 h)
 
 -- nothing is asked by a mask without bits
 pub covers_zero : (Q : List ℕ) → Covers 0 Q

@@ -1,54 +1,37 @@
 -- The element at a place of a list. Assumes nothing.
 use Rattle.std.proofs.Common.{◌≡◌, ℕ, zero, suc, ◌+◌, ◌<◌, ◌≤◌, Bool, true, false, cond, ◌⊎◌, List, [], ◌∷◌, ◌++◌, map, drop, length, Some, None, Option, sym, refl, ap, ◌∙◌, inl, inr, arith}
 use Rattle.std.specs.List.{slice_get, range_with_len}
-use Rattle.std.proofs.lemmas.Option.{slice_get-get_or, slice_get_past}
+use Rattle.std.specs.Option.{option_map}
+use Rattle.std.proofs.lemmas.Option.{none-some, slice_get-get_or, slice_get-map}
+use Rattle.model.proofs.Counted.{nth_counted, nth_counted_past}
+-- the crates above cite these two by the names they have here
+pub use Rattle.std.proofs.lemmas.Option.{same_Some as some_same, slice_get_within as nth_within}
+use Rattle.std.proofs.lemmas.Option.{same_Some}
 use Rattle.std.proofs.lemmas.List.{length-drop}
-use Rattle.std.proofs.lemmas.List.FromFn.{get_or-map-range_with_len, length-map-range_with_len}
 use Rattle.std.proofs.lemmas.Bool.{cases_lt}
-
-pub none_some : {X : Type 0} (x : X) → None ≡ Some x → ⊥
-none_some {X} x e = let z : ◌≡◌ {A = ℕ} 0 1 = cc in omega arith
-
-pub some_same : {X : Type 0} (x y : X) → Some x ≡ Some y → x ≡ y
-some_same x y e = cc
 
 pub pair_same : (x y : ℕ × ℕ) → x.0 ≡ y.0 → x.1 ≡ y.1 → x ≡ y
 pair_same (a, b) (c, d) p q = cc
 
-pub nth_within : {X : Type 0} (xs : List X) (k : ℕ) (x : X) → slice_get xs k ≡ Some x → k < length xs
-nth_within xs k x e = elim (cases_lt k (length xs)) [ inl h ↦ h | inr h ↦ absurd (none_some x (sym (slice_get_past xs k h) ∙ e)) ]
-
 pub nth_map : {X Y : Type 0} (f : X → Y) (xs : List X) (k : ℕ) (x : X) → slice_get xs k ≡ Some x → slice_get (map f xs) k ≡ Some (f x)
-nth_map f [] k x e = absurd (none_some x e)
-nth_map f (y ∷ xs) zero x e = ap (λ (z : _). Some (f z)) (some_same y x e)
-nth_map f (y ∷ xs) (suc k) x e = nth_map f xs k x e
+nth_map f xs k x e = slice_get-map f xs k ∙ ap (option_map f) e
 
 pub nth_map_none : {X Y : Type 0} (f : X → Y) (xs : List X) (k : ℕ) → slice_get xs k ≡ None → slice_get (map f xs) k ≡ None
-nth_map_none f [] k e = refl
-nth_map_none f (y ∷ xs) zero e = absurd (none_some y (sym e))
-nth_map_none f (y ∷ xs) (suc k) e = nth_map_none f xs k e
+nth_map_none f xs k e = slice_get-map f xs k ∙ ap (option_map f) e
 
 pub nth_map_back : {X Y : Type 0} (f : X → Y) (xs : List X) (k : ℕ) (y : Y) → slice_get (map f xs) k ≡ Some y → (x : X) × (slice_get xs k ≡ Some x) × (f x ≡ y)
-nth_map_back f [] k y e = absurd (none_some y e)
-nth_map_back f (x ∷ xs) zero y e = (x, refl, some_same (f x) y e)
+nth_map_back f [] k y e = absurd (none-some y e)
+nth_map_back f (x ∷ xs) zero y e = (x, refl, same_Some (f x) y e)
 nth_map_back f (x ∷ xs) (suc k) y e = nth_map_back f xs k y e
-
-pub nth_counted : {X : Type 0} (f : ℕ → X) (n k : ℕ) → k < n → slice_get (map f (range_with_len 0 n)) k ≡ Some (f k)
-nth_counted f n k h =
-    let l : k < length (map f (range_with_len 0 n)) = simp length-map-range_with_len (omega arith) in
-    slice_get-get_or (map f (range_with_len 0 n)) k (f k) l ∙ ap Some (get_or-map-range_with_len f 0 n k k (f k) h (omega arith))
-
-pub nth_uncounted : {X : Type 0} (f : ℕ → X) (n k : ℕ) → n ≤ k → slice_get (map f (range_with_len 0 n)) k ≡ None
-nth_uncounted f n k h = slice_get_past (map f (range_with_len 0 n)) k (simp length-map-range_with_len (omega arith))
 
 pub nth_counted_back : {X : Type 0} (f : ℕ → X) (n k : ℕ) (x : X) → slice_get (map f (range_with_len 0 n)) k ≡ Some x → (k < n) × (f k ≡ x)
 nth_counted_back f n k x e =
-    elim (cases_lt k n) [ inl h ↦ (h, some_same (f k) x (sym (nth_counted f n k h) ∙ e)) | inr h ↦ absurd (none_some x (sym (nth_uncounted f n k h) ∙ e)) ]
+    elim (cases_lt k n) [ inl h ↦ (h, same_Some (f k) x (sym (nth_counted f n k h) ∙ e)) | inr h ↦ absurd (none-some x (sym (nth_counted_past f n k h) ∙ e)) ]
 
 -- a list that is there under a test only
 pub nth_cond : {X : Type 0} (b : Bool) (xs : List X) (k : ℕ) (x : X) → slice_get (cond b xs []) k ≡ Some x → (b ≡ true) × (slice_get xs k ≡ Some x)
 nth_cond true xs k x e = (refl, e)
-nth_cond false xs k x e = absurd (none_some x e)
+nth_cond false xs k x e = absurd (none-some x e)
 
 pub nothing : {X : Type 0} (o : Option X) → ((x : X) → o ≡ Some x → ⊥) → None ≡ o
 nothing None f = refl
@@ -56,7 +39,7 @@ nothing (Some x) f = absurd (f x refl)
 
 -- a list that one element may stand before
 pub nth_before : {X : Type 0} (t : Bool) (x : X) (ys : List X) (k : ℕ) (y : X) → slice_get (cond t (x ∷ []) [] ++ ys) k ≡ Some y → ((t ≡ true) × (k ≡ 0) × (x ≡ y)) ⊎ ((j : ℕ) × (slice_get ys j ≡ Some y) × (k ≡ cond t (suc j) j))
-nth_before true x ys zero y e = inl (refl, refl, some_same x y e)
+nth_before true x ys zero y e = inl (refl, refl, same_Some x y e)
 nth_before true x ys (suc k) y e = inr (k, e, refl)
 nth_before false x ys k y e = inr (k, e, refl)
 
@@ -69,7 +52,7 @@ nth_behind true x ys k = refl
 nth_behind false x ys k = refl
 
 pub past : {X : Type 0} (xs : List X) (k : ℕ) (d : X) → slice_get xs k ≡ None → length xs ≤ k
-past xs k d h = elim (cases_lt k (length xs)) [ inl l ↦ absurd (none_some _ (sym h ∙ slice_get-get_or xs k d l)) | inr l ↦ l ]
+past xs k d h = elim (cases_lt k (length xs)) [ inl l ↦ absurd (none-some _ (sym h ∙ slice_get-get_or xs k d l)) | inr l ↦ l ]
 
 -- what stands behind the first k: its first element stands at place k, and nothing, where they were all
 pub rest_first : {X : Type 0} (xs : List X) (k : ℕ) (x : X) (ys : List X) → drop k xs ≡ x ∷ ys → (slice_get xs k ≡ Some x) × (ys ≡ drop (k + 1) xs)

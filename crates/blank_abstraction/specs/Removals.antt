@@ -4,7 +4,8 @@ use Rattle.std.proofs.Common.{sym, ap, ◌∙◌, subst, arith}
 use Rattle.std.proofs.lemmas.Bool.Decides.{nat_tests}
 use Rattle.std.specs.List.{slice_get}
 use Rattle.abstraction.specs.Meaning.{Removal, Meaning}
-use Rattle.abstraction.proofs.Nth.{nth_cond, nth_counted, nth_counted_back}
+use Rattle.model.proofs.Counted.{nth_counted}
+use Rattle.abstraction.proofs.Nth.{nth_cond, nth_counted_back}
 use Rattle.blank_abstraction.specs.Blank.{blank_code, blank_good, each_event, blank_removals}
 
 pub blank_removed : (m c k e d : ℕ) → slice_get (blank_removals m c) k ≡ Some (e, d) → Removal 0 blank_code m c e d

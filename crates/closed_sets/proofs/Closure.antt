@@ -2,6 +2,7 @@
 use Rattle.std.proofs.Common.{◌≡◌, ℕ, zero, suc, ◌<◌, ◌⊎◌, List, [], ◌∷◌, length, get_or, sym, refl, ap, ◌∙◌, subst, inl, inr, arith, get_or-set_same}
 use Rattle.std.proofs.lemmas.List.{get_or-map}
 use Rattle.std.proofs.lemmas.Bool.{cases_eq}
+use Rattle.std.proofs.lemmas.Option.{slice_get_within}
 use Rattle.model.proofs.States.{start_is, step_is}
 use Rattle.model.specs.Bad.{Bad}
 use Rattle.model.specs.Order.{Nothing}
@@ -11,7 +12,6 @@ use Rattle.model.specs.Steps.{Acts, Step, Reaches, begin, onward}
 use Rattle.model.specs.System.{machines, rule_of, WellFormed}
 use Rattle.model.specs.declared.rule.Action.{Action}
 use Rattle.model.specs.declared.rule.Action.TheVariants.{Local, Take, Send}
-use Rattle.abstraction.proofs.Nth.{nth_within}
 use Rattle.closed_sets.specs.Judging.{Numbered, Applies, outcomes, judged}
 use Rattle.closed_sets.specs.Records.{Claim, Record, record_of, code_in, codes, Listed, Represented, Closed}
 use Rattle.closed_sets.specs.Theorems.{Means, SoundAll, ClosedHolds, FoundNothing, ClosedNothing}
@@ -77,7 +77,7 @@ module _ (T : Claim) (law : Means T) (p : WellFormed T.system) (sound : SoundAll
       let before : T.code m (v ∷ Q) ≡ code_in (record_of T k) i = ap (T.code m) (sym q) ∙ sym (code_at T s i ls) ∙ ap (λ (z : Record). code_in z i) (sym e) in
       let after : T.code m Q ≡ T.code m (queue_at t i) = ap (λ (z : ℕ × List ℕ). T.code m z.1) (sym (get_or-set_same s i (x.to, Q) (0, []) ls)) ∙ ap (λ (z : State). T.code m (queue_at z i)) (sym h) in
       let found = law.removes m (code_in (record_of T k) i) v (T.code m (queue_at t i)) (record { valid = ((sound k lk).good i lt).valid; event = o.0; queue = Q; over = o.1; after = after; before = before }) in
-      (found.0, nth_within _ found.0 _ found.1, found.1)
+      (found.0, slice_get_within _ found.0 _ found.1, found.1)
 
   module _ (none : Nothing (Applies T) (judged T)) where
     stays : (s t : State) → IsState T.system s → Represented T s → Step T.system s t → Represented T t

@@ -1,6 +1,7 @@
 -- What a record lets happen: steps. Assumes nothing.
 use Rattle.std.proofs.Common.{◌≡◌, ℕ, ◌<◌, List, [], ◌∷◌, ◌++◌, length, set, Some, Option, sym, refl, ap, ◌∙◌, subst, inl, inr, arith, get_or-set_other}
 use Rattle.std.proofs.lemmas.Bool.{cases_eq}
+use Rattle.std.proofs.lemmas.Option.{same_Some}
 use Rattle.model.proofs.States.{is_set}
 use Rattle.model.specs.State.{State, local_at, queue_at, IsState}
 use Rattle.model.specs.Steps.{Acts, moved, sent}
@@ -8,7 +9,6 @@ use Rattle.model.specs.System.{machines, RuleFits, ActionFits}
 use Rattle.model.specs.declared.rule.Action.{Action}
 use Rattle.model.specs.declared.rule.Action.TheVariants.{Local, Take, Send}
 use Rattle.model.specs.declared.rule.Rule.{Rule}
-use Rattle.abstraction.proofs.Nth.{some_same}
 use Rattle.closed_sets.proofs.Chosen.{local_is, code_is, codes_set, chosen, requeued, queue_set}
 use Rattle.closed_sets.specs.Codes.{moved_in, sent_in, Leads, OutsideLets, OutsideNot}
 use Rattle.closed_sets.specs.Judging.{Leaves, Numbered}
@@ -93,7 +93,7 @@ module _ (T : Claim) (law : Means T) (r : Record) (sound : Sound T r) (x : Rule)
   only (Take v) n c q p (d, at, e) (b, bt, g) = let s : d ≡ b = same v d b (sym at ∙ bt) in e ∙ ap (λ (z : ℕ). moved_in x z r) s ∙ sym g
     where
       same : (v d b : ℕ) → ◌≡◌ {A = Option (ℕ × ℕ)} (Some (v, d)) (Some (v, b)) → d ≡ b
-      same v d b h = ap (λ (z : ℕ × ℕ). z.1) (some_same (v, d) (v, b) h)
+      same v d b h = ap (λ (z : ℕ × ℕ). z.1) (same_Some (v, d) (v, b) h)
   only (Send v t) n c q p (d, z, app, e) (b, y, bpp, g) =
       let k = sound.good t n.1 in
       let s : d ≡ b = sym (app k.queue k.over k.coded) ∙ bpp k.queue k.over k.coded in

@@ -9,7 +9,8 @@ use Rattle.abstraction.specs.Meaning.{Valid, Good, Removal, Meaning, Allowed, Ap
 use Rattle.model.specs.declared.queue.Front.{Front}
 use Rattle.model.specs.declared.queue.Front.TheVariants.{Any, Empty, Event}
 use Rattle.abstraction.proofs.Nth.{nth_cond, nth_map, nth_map_back, nth_before, nth_front, nth_behind, pair_same}
-use Rattle.abstraction.proofs.Masks.{over_append, covers_zero}
+use Rattle.model.proofs.States.{over_back}
+use Rattle.abstraction.proofs.Masks.{covers_zero}
 use Rattle.abstraction.proofs.Calls.{covers_none}
 use Rattle.keep_first.specs.KeepFirst.{keep_bits, keep_code, keep_removals, keep_taken, begun, kept, Split}
 
@@ -58,7 +59,7 @@ module _ (w : ℕ) (code : ℕ → List ℕ → ℕ) where
 
   pub append_small : {removals : ℕ → ℕ → List (ℕ × ℕ)} → Meaning w code removals → (m b e d : ℕ) → Appended w code m b e (Some d) → d < 2 ^ w
   append_small law m b e d (g, l, to) =
-      subst (λ (x : ℕ). x < 2 ^ w) (to g.queue g.over g.coded) (law.small m (g.queue ++ e ∷ []) g.valid (over_append m e g.queue g.over l))
+      subst (λ (x : ℕ). x < 2 ^ w) (to g.queue g.over g.coded) (law.small m (g.queue ++ e ∷ []) g.valid (over_back m e g.queue l g.over))
 
   pub allow_none : (m mask : ℕ) (front : Front) → Valid m (keep_bits w) → mask < 256 → ((e : ℕ) → front ≢ Event e) → Decides (mask == 0) (Allowed (keep_bits w) (keep_code code) m 0 front mask)
   allow_none m mask front v low ne = (λ t. record { valid = v; queue = []; over = tt; coded = refl; begins = begin front ne; covers = subst (λ (x : ℕ). Covers x []) (sym (eqb-true mask 0 t)) (covers_zero []) }, λ a. eq-eqb mask 0 (none a.queue a.coded a.covers))

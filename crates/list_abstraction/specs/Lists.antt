@@ -3,8 +3,9 @@ use Rattle.std.specs.Prelude.{◌≡◌, ℕ, zero, suc, ◌+◌, ◌-◌, ◌*�
 use Rattle.std.proofs.Common.{sym, ap, ◌∙◌, subst, append-nil, inl, inr, arith}
 use Rattle.std.specs.List.{slice_get, AllByRecursion}
 use Rattle.std.proofs.lemmas.Bool.{cases_Bool, cases_eq, eqb-true, eqb-false, eq-eqb, ne_eqb, and_parts, and_from, lt-ltb, ltb-true, not-true, not_from_false, or_cases, or_parts, or_right, or_from, false≢true}
+use Rattle.std.proofs.lemmas.Option.{none-some, same_Some}
 use Rattle.model.specs.Queue.{Over, Waits}
-use Rattle.abstraction.proofs.Nth.{none_some, some_same, nth_map, nth_map_back}
+use Rattle.abstraction.proofs.Nth.{nth_map, nth_map_back}
 use Rattle.abstraction.specs.Distinct.{Absent, Apart, Below, without}
 use Rattle.abstraction.proofs.Distinct.{without_same, without_other, without_absent, without_all, absent_without, apart_without, waits_present}
 use Rattle.list_abstraction.specs.List.{firsts, pack, unpack, has, listed, insertions}
@@ -134,33 +135,33 @@ insertions_place e (f ∷ F) L a p = elim (cases_eq f e) [
     later (inr (k, h)) s = inr (suc k, ap (λ (X : List ℕ). slice_get (insertions e X) (suc k)) (sym s) ∙ nth_map (λ (R : List ℕ). f ∷ R) (insertions e (without e F)) k F h)
 
 pub insertions_without : (e : ℕ) (L : List ℕ) (k : ℕ) (F : List ℕ) → Absent e L → slice_get (insertions e L) k ≡ Some F → without e F ≡ L
-insertions_without e [] zero F a h = ap (without e) (sym (some_same (e ∷ []) F h)) ∙ without_same e e [] refl
-insertions_without e [] (suc k) F a h = absurd (none_some F h)
-insertions_without e (f ∷ L) zero F a h = ap (without e) (sym (some_same (e ∷ f ∷ L) F h)) ∙ without_same e e (f ∷ L) refl ∙ without_absent e (f ∷ L) a
+insertions_without e [] zero F a h = ap (without e) (sym (same_Some (e ∷ []) F h)) ∙ without_same e e [] refl
+insertions_without e [] (suc k) F a h = absurd (none-some F h)
+insertions_without e (f ∷ L) zero F a h = ap (without e) (sym (same_Some (e ∷ f ∷ L) F h)) ∙ without_same e e (f ∷ L) refl ∙ without_absent e (f ∷ L) a
 insertions_without e (f ∷ L) (suc k) F a h =
     let (R, n, q) = nth_map_back (λ (R : List ℕ). f ∷ R) (insertions e L) k F h in
     ap (without e) (sym q) ∙ without_other e f R a.0 ∙ ap (λ (X : List ℕ). f ∷ X) (insertions_without e L k R a.1 n)
 
 pub insertions_all : (P : ℕ → Type 0) (e : ℕ) (L : List ℕ) (k : ℕ) (F : List ℕ) → P e → AllByRecursion P L → slice_get (insertions e L) k ≡ Some F → AllByRecursion P F
-insertions_all P e [] zero F x a h = subst (AllByRecursion P) (some_same (e ∷ []) F h) (x, tt)
-insertions_all P e [] (suc k) F x a h = absurd (none_some F h)
-insertions_all P e (f ∷ L) zero F x a h = subst (AllByRecursion P) (some_same (e ∷ f ∷ L) F h) (x, a)
+insertions_all P e [] zero F x a h = subst (AllByRecursion P) (same_Some (e ∷ []) F h) (x, tt)
+insertions_all P e [] (suc k) F x a h = absurd (none-some F h)
+insertions_all P e (f ∷ L) zero F x a h = subst (AllByRecursion P) (same_Some (e ∷ f ∷ L) F h) (x, a)
 insertions_all P e (f ∷ L) (suc k) F x a h =
     let (R, n, q) = nth_map_back (λ (R : List ℕ). f ∷ R) (insertions e L) k F h in
     subst (AllByRecursion P) q (a.0, insertions_all P e L k R x a.1 n)
 
 pub insertions_apart : (e : ℕ) (L : List ℕ) (k : ℕ) (F : List ℕ) → Absent e L → Apart L → slice_get (insertions e L) k ≡ Some F → Apart F
-insertions_apart e [] zero F a d h = subst Apart (some_same (e ∷ []) F h) (tt, tt)
-insertions_apart e [] (suc k) F a d h = absurd (none_some F h)
-insertions_apart e (f ∷ L) zero F a d h = subst Apart (some_same (e ∷ f ∷ L) F h) (a, d)
+insertions_apart e [] zero F a d h = subst Apart (same_Some (e ∷ []) F h) (tt, tt)
+insertions_apart e [] (suc k) F a d h = absurd (none-some F h)
+insertions_apart e (f ∷ L) zero F a d h = subst Apart (same_Some (e ∷ f ∷ L) F h) (a, d)
 insertions_apart e (f ∷ L) (suc k) F a d h =
     let (R, n, q) = nth_map_back (λ (R : List ℕ). f ∷ R) (insertions e L) k F h in
     subst Apart q (insertions_all (λ (y : ℕ). y ≢ f) e L k R (λ p. a.0 (sym p)) d.0 n, insertions_apart e L k R a.1 d.1 n)
 
 pub insertions_longer : (e : ℕ) (L : List ℕ) (k : ℕ) (F : List ℕ) → slice_get (insertions e L) k ≡ Some F → length F ≡ suc (length L)
-insertions_longer e [] zero F h = ap length (sym (some_same (e ∷ []) F h))
-insertions_longer e [] (suc k) F h = absurd (none_some F h)
-insertions_longer e (f ∷ L) zero F h = ap length (sym (some_same (e ∷ f ∷ L) F h))
+insertions_longer e [] zero F h = ap length (sym (same_Some (e ∷ []) F h))
+insertions_longer e [] (suc k) F h = absurd (none-some F h)
+insertions_longer e (f ∷ L) zero F h = ap length (sym (same_Some (e ∷ f ∷ L) F h))
 insertions_longer e (f ∷ L) (suc k) F h =
     let (R, n, q) = nth_map_back (λ (R : List ℕ). f ∷ R) (insertions e L) k F h in
     ap length (sym q) ∙ ap suc (insertions_longer e L k R n)
@@ -173,15 +174,15 @@ head_same e f L R p = cc
 
 pub insertions_once : (e : ℕ) (L : List ℕ) (k j : ℕ) (F : List ℕ) → Absent e L → slice_get (insertions e L) k ≡ Some F → slice_get (insertions e L) j ≡ Some F → k ≡ j
 insertions_once e [] zero zero F a h i = refl
-insertions_once e [] zero (suc j) F a h i = absurd (none_some F i)
-insertions_once e [] (suc k) j F a h i = absurd (none_some F h)
+insertions_once e [] zero (suc j) F a h i = absurd (none-some F i)
+insertions_once e [] (suc k) j F a h i = absurd (none-some F h)
 insertions_once e (f ∷ L) zero zero F a h i = refl
 insertions_once e (f ∷ L) zero (suc j) F a h i =
     let (R, n, q) = nth_map_back (λ (R : List ℕ). f ∷ R) (insertions e L) j F i in
-    absurd (a.0 (head_same f e R (f ∷ L) (q ∙ sym (some_same (e ∷ f ∷ L) F h))))
+    absurd (a.0 (head_same f e R (f ∷ L) (q ∙ sym (same_Some (e ∷ f ∷ L) F h))))
 insertions_once e (f ∷ L) (suc k) zero F a h i =
     let (R, n, q) = nth_map_back (λ (R : List ℕ). f ∷ R) (insertions e L) k F h in
-    absurd (a.0 (head_same f e R (f ∷ L) (q ∙ sym (some_same (e ∷ f ∷ L) F i))))
+    absurd (a.0 (head_same f e R (f ∷ L) (q ∙ sym (same_Some (e ∷ f ∷ L) F i))))
 insertions_once e (f ∷ L) (suc k) (suc j) F a h i =
     let (R, n, q) = nth_map_back (λ (R : List ℕ). f ∷ R) (insertions e L) k F h in
     let (S, o, r) = nth_map_back (λ (R : List ℕ). f ∷ R) (insertions e L) j F i in

@@ -3,9 +3,10 @@ use Rattle.std.specs.Prelude.{◌≡◌, ℕ, zero, suc, ◌<◌, ◌≤◌, Boo
 use Rattle.std.proofs.Common.{sym, ap, ◌∙◌, subst, inl, inr, arith}
 use Rattle.std.specs.List.{slice_get}
 use Rattle.std.proofs.lemmas.Bool.{and_parts, and_from, leb-true, le-leb, eqb-true, eq-eqb}
+use Rattle.std.proofs.lemmas.Option.{none-some, same_Some}
 use Rattle.model.specs.Queue.{Over}
 use Rattle.abstraction.specs.Meaning.{Valid, Good, Removal, Meaning}
-use Rattle.abstraction.proofs.Nth.{nth_cond, nth_map, nth_map_back, none_some, some_same}
+use Rattle.abstraction.proofs.Nth.{nth_cond, nth_map, nth_map_back}
 use Rattle.abstraction.specs.Distinct.{Absent, Apart, Below, without}
 use Rattle.abstraction.proofs.Distinct.{below_over, without_absent, few_below}
 use Rattle.list_abstraction.specs.Read.{Coded}
@@ -68,14 +69,14 @@ list_removed m c k e d h =
         }
 
     go : (L : List ℕ) → Coded m c L → slice_get (removals_of L) k ≡ Some (e, d) → Removal 32 list_code m c e d
-    go [] w n = absurd (none_some _ n)
+    go [] w n = absurd (none-some _ n)
     go (f ∷ L) w n =
         let (R, i, q) = nth_map_back (left f) (L ∷ insertions f L) k (e, d) n in
         at R k i q
       where
         at : (R : List ℕ) (k : ℕ) → slice_get (L ∷ insertions f L) k ≡ Some R → left f R ≡ (e, d) → Removal 32 list_code m c e d
         at R zero i q =
-            let s : L ≡ R = some_same L R i in
+            let s : L ≡ R = same_Some L R i in
             made f L R w (subst (Below m) s w.below.1) (subst Apart s w.apart.1) (ap (without f) (sym s) ∙ without_absent f L w.apart.0) q
         at R (suc k) i q =
             made f L R w (insertions_all (λ (y : ℕ). y < m) f L k R w.below.0 w.below.1 i) (insertions_apart f L k R w.apart.0 w.apart.1 i) (insertions_without f L k R w.apart.0 i) q
@@ -101,16 +102,16 @@ list_once m c k j x h i =
   where
     lists : (e : ℕ) (L : List ℕ) → Absent e L → (k j : ℕ) (R : List ℕ) → slice_get (L ∷ insertions e L) k ≡ Some R → slice_get (L ∷ insertions e L) j ≡ Some R → k ≡ j
     lists e L a zero zero R h i = refl
-    lists e L a zero (suc j) R h i = absurd (omega (arith, insertions_longer e L j R i, ap length (some_same L R h)))
-    lists e L a (suc k) zero R h i = absurd (omega (arith, insertions_longer e L k R h, ap length (some_same L R i)))
+    lists e L a zero (suc j) R h i = absurd (omega (arith, insertions_longer e L j R i, ap length (same_Some L R h)))
+    lists e L a (suc k) zero R h i = absurd (omega (arith, insertions_longer e L k R h, ap length (same_Some L R i)))
     lists e L a (suc k) (suc j) R h i = ap suc (insertions_once e L k j R a h i)
 
     within : (e : ℕ) (L : List ℕ) → Coded m c (e ∷ L) → (k : ℕ) (R : List ℕ) → slice_get (L ∷ insertions e L) k ≡ Some R → Below m R
-    within e L w zero R h = subst (Below m) (some_same L R h) w.below.1
+    within e L w zero R h = subst (Below m) (same_Some L R h) w.below.1
     within e L w (suc k) R h = insertions_all (λ (y : ℕ). y < m) e L k R w.below.0 w.below.1 h
 
     go : (L : List ℕ) → Coded m c L → slice_get (removals_of L) k ≡ Some x → slice_get (removals_of L) j ≡ Some x → k ≡ j
-    go [] w n o = absurd (none_some _ n)
+    go [] w n o = absurd (none-some _ n)
     go (e ∷ L) w n o =
         let (R, i, q) = nth_map_back (left e) (L ∷ insertions e L) k x n in
         let (S, l, p) = nth_map_back (left e) (L ∷ insertions e L) j x o in

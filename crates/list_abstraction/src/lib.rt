@@ -26,8 +26,7 @@ fn read(m: u8, c: u64) -> Option<u8>
     }
     let mut mask = 0;
     let mut rest = c;
-    // The loop divides what is left: the code ends where nothing is, and an iterator over its digits would have to
-    // tell that from a gap.
+    // a loop that divides, since the code ends where nothing is left: an iterator over digits would not tell a gap
     while rest != 0 {
         let digit = (rest % 16) as u8;
         if digit == 0 || digit > m {

@@ -6,7 +6,8 @@ use Rattle.std.proofs.lemmas.Nat.{or_lt, pow_pos, pow_below, and_le_l}
 use Rattle.std.proofs.lemmas.Bool.{cases_Bool, eqb-true, eqb-false, cases_eq}
 use Rattle.model.specs.Queue.{Over, Waits, Bit, present}
 use Rattle.abstraction.specs.Meaning.{Valid, Good}
-use Rattle.abstraction.proofs.Masks.{bit_below, over_append}
+use Rattle.model.proofs.States.{over_back}
+use Rattle.abstraction.proofs.Masks.{bit_below}
 use Rattle.abstraction.proofs.Bitwise.{bit_or_lem, or_left, or_right, pow_bit, bit_pow, bits_ext, bit_out}
 use Rattle.abstraction.proofs.Distinct.{waits_append, append_waits}
 use Rattle.set_abstraction.specs.Set.{set_code, absent}
@@ -70,7 +71,7 @@ set_good_below m c g = subst (λ (x : ℕ). x < 2 ^ m) g.coded (code_below m g.q
 
 pub code_append : (m e : ℕ) (Q : List ℕ) → Over m Q → e < m → set_code m (Q ++ e ∷ []) ≡ bit_or (set_code m Q) (2 ^ e)
 code_append m e Q o l =
-    bits_ext m (set_code m (Q ++ e ∷ [])) (bit_or (set_code m Q) (2 ^ e)) (code_below m (Q ++ e ∷ []) (over_append m e Q o l)) (or_lt m (set_code m Q) (2 ^ e) (code_below m Q o) (pow_below e m l))
+    bits_ext m (set_code m (Q ++ e ∷ [])) (bit_or (set_code m Q) (2 ^ e)) (code_below m (Q ++ e ∷ []) (over_back m e Q l o)) (or_lt m (set_code m Q) (2 ^ e) (code_below m Q o) (pow_below e m l))
     (λ f b. elim (waits_append f e Q (code_waits m f (Q ++ e ∷ []) b)) [
       | inl h ↦ or_left (set_code m Q) (2 ^ e) f (waits_code m f Q h)
       | inr p ↦ or_right (set_code m Q) (2 ^ e) f (subst (Bit (2 ^ e)) (sym p) (pow_bit e))

@@ -4,9 +4,10 @@ use Rattle.std.proofs.Common.{sym, ap, ◌∙◌, subst, inl, inr, lt_of_lt_of_l
 use Rattle.std.specs.List.{slice_get}
 use Rattle.std.proofs.lemmas.Bool.{eqb-true, eq-eqb, cases_eq}
 use Rattle.std.proofs.lemmas.Bool.Decides.{nat_tests}
+use Rattle.std.proofs.lemmas.Option.{none-some, same_Some}
 use Rattle.model.specs.Queue.{Bit, present}
 use Rattle.abstraction.specs.Meaning.{Removal, Meaning}
-use Rattle.abstraction.proofs.Nth.{nth_cond, none_some, some_same}
+use Rattle.abstraction.proofs.Nth.{nth_cond}
 use Rattle.abstraction.proofs.Bitwise.{or_left, pow_bit}
 use Rattle.set_abstraction.specs.Set.{set_code, absent, set_from, set_good, set_removals}
 use Rattle.set_abstraction.specs.Codes.{code_below, queue_of, queue_over, code_queue, code_append, absent_below, with_absent, with_same, absent_apart, before_put}
@@ -14,8 +15,8 @@ use Rattle.set_abstraction.specs.Codes.{code_below, queue_of, queue_over, code_q
 -- a list that two elements may stand before
 module _ {X : Type 0} (a b : X) (ys : List X) where
   pub two_back : (t : Bool) (k : ℕ) (y : X) → slice_get (cond t (a ∷ b ∷ []) [] ++ ys) k ≡ Some y → ((t ≡ true) × (k ≡ 0) × (a ≡ y)) ⊎ (((t ≡ true) × (k ≡ 1) × (b ≡ y)) ⊎ ((j : ℕ) × (slice_get ys j ≡ Some y) × (k ≡ cond t (suc (suc j)) j)))
-  two_back true zero y e = inl (refl, refl, some_same a y e)
-  two_back true (suc zero) y e = inr (inl (refl, refl, some_same b y e))
+  two_back true zero y e = inl (refl, refl, same_Some a y e)
+  two_back true (suc zero) y e = inr (inl (refl, refl, same_Some b y e))
   two_back true (suc (suc k)) y e = inr (inr (k, e, refl))
   two_back false k y e = inr (inr (k, e, refl))
 
@@ -37,7 +38,7 @@ snd_same a b c d p = ap (λ (x : ℕ × ℕ). x.1) p
 
 -- what stands in the list
 pub from_back : (c e n k x d : ℕ) → slice_get (set_from c e n) k ≡ Some (x, d) → (e ≤ x) × (x < e + n) × Bit c x × ((d ≡ absent c x) ⊎ (d ≡ c))
-from_back c e zero k x d h = absurd (none_some _ h)
+from_back c e zero k x d h = absurd (none-some _ h)
 from_back c e (suc n) k x d h =
     elim (two_back (e, absent c e) (e, c) (set_from c (e + 1) n) (present c e) k (x, d) h) [
       | inl (t, _, p) ↦ (let q = fst_same _ _ _ _ p in
@@ -66,7 +67,7 @@ from_same c e (suc n) x l h b = elim (cases_eq e x) [
 
 -- no pair twice
 from_once : (m c : ℕ) → m ≤ 8 → c < 2 ^ m → (n e k j x d : ℕ) → e + n ≤ m → slice_get (set_from c e n) k ≡ Some (x, d) → slice_get (set_from c e n) j ≡ Some (x, d) → k ≡ j
-from_once m c few l zero e k j x d le h i = absurd (none_some _ h)
+from_once m c few l zero e k j x d le h i = absurd (none-some _ h)
 from_once m c few l (suc n) e k j x d le h i =
     elim (at k h) [
       | inl (t, z, p) ↦ (elim (at j i) [

@@ -3,7 +3,8 @@ use Rattle.std.proofs.lemmas.Bool.{cases_lt}
 use Rattle.std.proofs.lemmas.Bool.Decides.{nat_tests, not_from_Decides}
 use Rattle.std.specs.Bool.{then_some}
 use Rattle.std.specs.List.{slice_get}
-use Rattle.abstraction.proofs.Nth.{nth_counted, nothing}
+use Rattle.model.proofs.Counted.{nth_counted}
+use Rattle.abstraction.proofs.Nth.{nothing}
 use Rattle.abstraction.proofs.Calls.{no_removal}
 use Rattle.blank_abstraction.specs.Blank.{blank_good, blank_removals, each_event}
 use Rattle.blank_abstraction.specs.Removals.{removal_event, blank_meaning}
