@@ -4,8 +4,6 @@ use Rattle.std.specs.List.{slice_get, range_with_len}
 use Rattle.std.specs.Option.{option_map}
 use Rattle.std.proofs.lemmas.Option.{none-some, slice_get-get_or, slice_get-map}
 use Rattle.model.proofs.Counted.{nth_counted, nth_counted_past}
--- the crates above cite these two by the names they have here
-pub use Rattle.std.proofs.lemmas.Option.{same_Some as some_same, slice_get_within as nth_within}
 use Rattle.std.proofs.lemmas.Option.{same_Some}
 use Rattle.std.proofs.lemmas.List.{length-drop}
 use Rattle.std.proofs.lemmas.Bool.{cases_lt}

@@ -9,7 +9,7 @@ use Rattle.model.specs.declared.queue.Front.TheVariants.{Event}
 use Rattle.model.specs.declared.rule.Action.{Action}
 use Rattle.model.specs.declared.rule.Action.TheVariants.{Take}
 use Rattle.model.specs.declared.rule.Rule.{Rule}
-use Rattle.abstraction.proofs.Nth.{some_same}
+use Rattle.std.proofs.lemmas.Option.{same_Some}
 use Rattle.abstraction.specs.Meaning.{Allowed}
 use Rattle.checker.specs.Held.{record_in}
 use Rattle.checker.specs.Inner.{Judging, Calm, ListedIn, Enabled, Inside}
@@ -108,7 +108,7 @@ module _ (T : Claim) (law : Means T) (n k : ℕ) (h : Held) (j : Judging T n k h
       pub take_other : (v u c d : ℕ) → x.action ≡ Take v → slice_get (T.removals T.system.events (code_in (record_of T k) x.machine)) c ≡ Some (u, d) → (u ≡ v → ⊥) → Applies T (outside k r c) → ⊥
       take_other v u c d e at ne a =
           let l = subst (λ (b : Action). (q : Record) × Leads T x b (record_of T k) c q) e (outside_not T law (record_of T k) j.sound x x_fits c (leaves c a)).1 in
-          ne (ap (λ (z : ℕ × ℕ). z.0) (some_same (u, d) (v, l.1.0) (sym at ∙ l.1.1)))
+          ne (ap (λ (z : ℕ × ℕ). z.0) (same_Some (u, d) (v, l.1.0) (sym at ∙ l.1.1)))
 
   module _ (proper : WellFormed T.system) (r : ℕ) (x : Rule) (a : Action) (on : Enabled T k r x a) where
     pub enabled_machine : x.machine < machines T.system

@@ -1,5 +1,5 @@
 use Rattle.std.proofs.Common.{is_some, sym, ap, ◌∙◌}
-use Rattle.abstraction.proofs.Nth.{some_same}
+use Rattle.std.proofs.lemmas.Option.{same_Some}
 use Rattle.table.specs.Layout.{pattern_lines_n, pattern_offset}
 use Rattle.table.specs.Lines.{pattern_line_at}
 use Rattle.table.proofs.Parts.{nth_counted}
@@ -13,5 +13,5 @@ unwrap-requires c =
 pub returns : goal.returns
 returns c =
     let bs = c.args.self.now.view.bytes.now in
-    some_same c.unwrap.result (pattern_line_at bs (pattern_offset bs c.args.l))
+    same_Some c.unwrap.result (pattern_line_at bs (pattern_offset bs c.args.l))
     (sym c.unwrap.ensures ∙ c.pattern_line.ensures ∙ nth_counted (λ l. pattern_line_at bs (pattern_offset bs l)) (pattern_lines_n bs) c.args.l c.requires)

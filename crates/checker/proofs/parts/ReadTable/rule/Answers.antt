@@ -1,7 +1,7 @@
 use Rattle.std.proofs.Common.{◌≡◌, ℕ, ◌<◌, List, is_some, Some, sym, ap, ◌∙◌, arith}
 use Rattle.std.proofs.lemmas.Option.{slice_get-get_or}
 use Rattle.std.specs.List.{slice_get}
-use Rattle.abstraction.proofs.Nth.{some_same}
+use Rattle.std.proofs.lemmas.Option.{same_Some}
 use Rattle.model.specs.System.{rule_of}
 use Rattle.table.proofs.Parts.{rules_long}
 use Rattle.table.specs.Layout.{rules_n}
@@ -15,4 +15,4 @@ pub unwrap-requires : goal.unwrap-requires
 unwrap-requires c = ap is_some (c.rule.ensures ∙ there c.args.self.now.view.bytes.now c.args.r c.requires)
 
 pub returns : goal.returns
-returns c = some_same c.unwrap.result _ (sym c.unwrap.ensures ∙ c.rule.ensures ∙ there c.args.self.now.view.bytes.now c.args.r c.requires)
+returns c = same_Some c.unwrap.result _ (sym c.unwrap.ensures ∙ c.rule.ensures ∙ there c.args.self.now.view.bytes.now c.args.r c.requires)
