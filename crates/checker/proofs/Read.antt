@@ -1,10 +1,8 @@
 -- The parts of the system in a table, and of the records in a set. Assumes nothing.
-use Rattle.std.proofs.Common.{◌≡◌, ℕ, zero, suc, ◌+◌, ◌*◌, ◌<◌, ◌≤◌, Bool, true, false, cond, List, [], ◌∷◌, map, length, get_or, is_some, Some, None, Decides, filter, Option, sym, refl, ap, ◌∙◌, subst, inl, inr, arith}
+use Rattle.std.proofs.Common.{◌≡◌, ℕ, zero, suc, ◌+◌, ◌*◌, ◌<◌, ◌≤◌, Bool, true, false, cond, List, [], ◌∷◌, map, length, get_or, Decides, filter, sym, refl, ap, ◌∙◌, subst, inl, inr, arith}
 use Rattle.std.specs.List.{AllByRecursion, range_with_len}
 use Rattle.std.proofs.lemmas.Bool.{cases_Bool, cases_eq}
-use Rattle.checker.specs.Inner.{Found, ListedIn}
 use Rattle.checker.specs.SetFile.{record_at, records_of, long_at}
-use Rattle.closed_sets.specs.Records.{Record}
 use Rattle.table.specs.Bytes.{word_at}
 use Rattle.std.proofs.lemmas.List.FromFn.{length-map-range_with_len, get_or-map-range_with_len}
 
@@ -37,8 +35,3 @@ kept_all P f t a (suc n) all j l u e = elim (cases_eq j a) [
       | inl e ↦ (subst (λ (b : Bool). AllByRecursion P (map f (cond b (a ∷ filter t (range_with_len (a + 1) n)) (filter t (range_with_len (a + 1) n))))) e h).1
       | inr e ↦ subst (λ (b : Bool). AllByRecursion P (map f (cond b (a ∷ filter t (range_with_len (a + 1) n)) (filter t (range_with_len (a + 1) n))))) e h
     ]
-
--- a record that is found is listed, and one that is not is not
-pub found_decides : (rs : List Record) (r : Record) (o : Option ℕ) → Found rs r o → Decides (is_some o) (ListedIn rs r)
-found_decides rs r None f = decides_false f
-found_decides rs r (Some k) f = decides_true (k, f.0, f.1)
