@@ -19,6 +19,7 @@ const RECORD_COUNT: usize = 10;
 // An entry of a record: its local state in one byte, its code in eight.
 const ENTRY_LENGTH: usize = 9;
 
+// As `Table`, a view that holds nothing but its bytes: the reader of each says what they stand for.
 #[derive(Clone, Copy)]
 pub struct StateSet<'a> {
     bytes: &'a [u8],

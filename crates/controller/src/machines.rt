@@ -14,7 +14,8 @@ use std::array;
 use std::marker::Model;
 use table::layout::MOST_MACHINES;
 
-// The first `count` entries count. Seen as the state that these stand for.
+// The first `count` entries count. Seen as the state that these stand for. The check's `Held` has such an array too, but
+// of codes, and copies it whole; here one entry is changed where it lies.
 #[derive(Drop)]
 pub struct Machines {
     count: u8,

@@ -17,7 +17,8 @@ pub extern "C" fn queue_check(table: &[u8], set: &[u8]) -> u64
 mod tests {
     use crate::queue_check;
 
-    // A sender and a taker; without the taker's rule; both records of their set.
+    // The files of `verdict`'s tests, since a test lies in the crate that it tests: a sender and a taker; without the
+    // taker's rule; both records of their set.
     static TABLE: &[u8; 32] =
         b"\x01\x00\x02\x00\x01\x00\x02\x00\x00\x00\x10\x00\x14\x00\x20\x00\x01\x00\x01\x00\x02\x00\x00\x00\x00\x01\x01\x01\x00\x00\x00\x00";
 
