@@ -139,12 +139,11 @@ fn check_removals<A: QueueAbstraction>(rt: &impl Abort, a: &A, m: u8, c: u64, co
             }
         }
     }
+    // by number, here and in `check_append`: a queue's number is its events
     for queue in 1..QUEUES {
-        if let Some(d) = codes[queue / 4] {
-            if codes[queue] == Some(c) {
-                let e = (queue % 4).saturating_sub(1) as u8;
-                assert!(rt; abstraction::has_removal(a, m, c, e, d));
-            }
+        if codes[queue] == Some(c) {
+            let e = (queue % 4).saturating_sub(1) as u8;
+            assert!(rt; codes[queue / 4].is_some_and(|d| abstraction::has_removal(a, m, c, e, d)));
         }
     }
     assert!(rt; a.removal(m, c, REMOVALS) == None);
@@ -160,6 +159,7 @@ fn check_append<A: QueueAbstraction>(rt: &impl Abort, a: &A, m: u8, codes: &Code
             for e in 0..m {
                 let longer = queue.wrapping_add(back.wrapping_mul(usize::from(e) + 1));
                 assert!(rt; longer < QUEUES);
+                assert!(rt; codes[longer].is_some());
                 assert!(rt; a.append(m, c, e) == codes[longer]);
             }
         }
