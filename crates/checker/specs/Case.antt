@@ -5,6 +5,7 @@ use Rattle.closed_sets.specs.Judging as judging
 use Rattle.closed_sets.specs.Records.{Claim, Sound, record_of}
 use Rattle.model.specs.Order.{Order, Answered}
 use Rattle.model.specs.declared.fault.Fault.{Fault}
+use Rattle.model.specs.declared.fault.Refusal.{Refusal}
 use Rattle.table.specs.Layout.{machines_n}
 use Rattle.checker.specs.Inner.{Judging}
 use Rattle.checker.specs.SetFile.{claim_of, records_n}
@@ -43,3 +44,7 @@ IsSound q j = Judging (claim_at q j) (machines_n (table_at j)) j.k j.held
 -- what is answered of the record: the first finding of an order, or that there is none
 abbrev pub Finds : {A : Type 0} → queue_abstraction.Ghosts A → Judgement A → Order judging.Finding → Result (Unit {0}) Fault → Type 0
 Finds q j order r = judging.Judged (claim_at q j) order r
+
+-- a fault of record k
+abbrev pub fault_of : Refusal → ℕ → ℕ → ℕ → Fault
+fault_of number k b c = record { number = number; a = k; b = b; c = c }

@@ -16,13 +16,14 @@ ghost use Rattle.checker.specs.Verdict.{bounds, field, HeaderApplies, header_num
 
 use crate::case::{Case, Judge};
 use crate::held::{Entry, Held};
+use crate::state_set::ENTRY_LENGTH;
 use abstraction::QueueAbstraction;
 use model::fault::{Fault, Refusal};
-use table::header::{HEADER_LENGTH, check_fields, fault_at};
+use table::header::{FIELDS, HEADER_LENGTH, check_fields, fault_at};
 
 impl<A: QueueAbstraction> Case<'_, '_, A> {
     // The least and the greatest value of each header field; the machines and the events are the table's.
-    fn header_bounds(&self) -> [(u32, u32); 8]
+    fn header_bounds(&self) -> [(u32, u32); FIELDS]
         ensures { result ≡ bounds self.now.table.view.bytes.now }
     {
         let machines = u32::from(self.table.view.machine_count());
@@ -55,7 +56,7 @@ impl<A: QueueAbstraction> Case<'_, '_, A> {
             return Err(fault_at(Refusal::SetLength, 0));
         }
         self.check_header_fields()?;
-        let record_length = 9 * self.table.machines() as usize;
+        let record_length = ENTRY_LENGTH * self.table.machines() as usize;
         if bytes.len() != HEADER_LENGTH + record_length * self.set.record_count() as usize {
             return Err(fault_at(Refusal::SetLength, 0));
         }

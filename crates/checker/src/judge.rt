@@ -2,16 +2,28 @@
 ghost use Rattle.std.specs.Prelude.{◌≡◌, ℕ, ◌<◌};
 ghost use Rattle.table.specs.Layout.{machines_n};
 ghost use Rattle.closed_sets.specs.Judging.{Judged, of_record, judged};
-ghost use Rattle.checker.specs.Case.{claim, claim_at, table_at, AllSound, IsSound, Finds};
+ghost use Rattle.checker.specs.Case.{claim, claim_at, table_at, fault_of, AllSound, IsSound, Finds};
 ghost use Rattle.checker.specs.Inner.{Calm};
 
 use crate::case::{Judge, Judgement};
 use crate::held::Held;
 use crate::hints::Hints;
 use abstraction::QueueAbstraction;
-use model::fault::Fault;
+use model::fault::{Fault, Refusal};
 
 impl<A: QueueAbstraction> Judgement<'_, '_, A> {
+    // A fault of the record.
+    pub(crate) fn fault(&self, number: Refusal, b: u16, c: u64) -> Fault
+        ensures { result ≡ fault_of number self.now.k b c }
+    {
+        Fault {
+            number,
+            a: self.k as u32,
+            b,
+            c,
+        }
+    }
+
     // The first thing found in the record; `last` is the record before.
     fn check_record(&self, hints: &mut Hints, last: &Held) -> Result<(), Fault>
         requires sound { IsSound A.QueueAbstraction self.now }

@@ -63,6 +63,7 @@ impl<A: QueueAbstraction> Judgement<'_, '_, A> {
         if first < count && self.keeps(n, first) {
             return Some(first);
         }
+        // by number, which is the hint
         for l in 0..count {
             if self.keeps(n, l) {
                 return Some(l);
@@ -93,12 +94,7 @@ impl<A: QueueAbstraction> Judgement<'_, '_, A> {
     {
         for n in 0..self.judge.case.table.view.pattern_count() {
             if self.lets_meet(hints, n) {
-                return Err(Fault {
-                    number: Refusal::PatternMet,
-                    a: self.k as u32,
-                    b: n,
-                    c: 0,
-                });
+                return Err(self.fault(Refusal::PatternMet, n, 0));
             }
         }
         Ok(())

@@ -15,9 +15,9 @@ use table::layout::{MOST_PATTERN_LINES, MOST_RULES};
 use table::line::PatternLine;
 
 // The pairs of a machine and a local state, and those with an event.
-const CELLS: usize = 256;
+const CELLS: usize = 8 * 32;
 
-const TAKER_CELLS: usize = 2048;
+const TAKER_CELLS: usize = 8 * CELLS;
 
 // A rule, and the next one of the same cell.
 #[derive(Clone, Copy)]
@@ -26,7 +26,8 @@ pub(crate) struct Link {
     next: Option<u16>,
 }
 
-// The rules, and for each machine and local state the chain of its rules.
+// The rules, and for each machine and local state the chain of its rules. Cells are numbered: arrays of arrays would be
+// indexed twice at each use, and are no plainer.
 #[derive(Drop)]
 pub(crate) struct Chains {
     // by number, in fixed memory: a link is a number
@@ -35,6 +36,7 @@ pub(crate) struct Chains {
     heads: [Option<u16>; CELLS],
 }
 
+// All of it lies in fixed memory, since nothing is allocated on the way to a verdict.
 #[derive(Drop)]
 pub(crate) struct Plan {
     chains: Chains,
@@ -183,6 +185,7 @@ impl Plan {
         requires { Planned table.now.view.bytes.now self.now }
         ensures { result ≡ true → NoTake (system_of table.now.view.bytes.now) machine local event → ⊥ }
     {
+        // a match: under `is_some_and` the proof was not found
         match self.takers[taker_cell(machine, local, event)] {
             Some(r) => takes(self.rule(r), machine, local, event),
             None => false,

@@ -17,7 +17,7 @@ use table::layout::MOST_MACHINES;
 const RECORD_COUNT: usize = 10;
 
 // An entry of a record: its local state in one byte, its code in eight.
-const ENTRY_LENGTH: usize = 9;
+pub(crate) const ENTRY_LENGTH: usize = 9;
 
 // As `Table`, a view that holds nothing but its bytes: the reader of each says what they stand for.
 #[derive(Clone, Copy)]
@@ -145,6 +145,7 @@ fn compare_entry(set: &[u8], at: usize, entry: Entry) -> Ordering
     requires { at + 8 < length set.now }
     ensures { MatchOrdering result (Before 9 (entry_byte set.now at) (byte_in (entry_of entry))) (Same 9 (entry_byte set.now at) (byte_in (entry_of entry)) × (entry.code < 2 ^ 64)) (Before 9 (byte_in (entry_of entry)) (entry_byte set.now at)) }
 {
+    // a match: under `then_with` the closure would want a clause of its own
     match set[at].cmp(&entry.local) {
         // the low byte of a code comes first
         Ordering::Equal => long(set, at + 1).swap_bytes().cmp(&entry.code.swap_bytes()),
@@ -159,7 +160,7 @@ fn compare(set: &[u8], k: u16, target: &Held) -> Ordering
     ensures alike { (j : ℕ) → record_at target.now.machines set.now j ≡ record_in target.now → Same (9 * target.now.machines) (record_byte target.now.machines set.now j) (byte_of (record_in target.now)) }
 {
     let start = start(target.machines, k);
-    // by number, which also says where in the set the entry stands
+    // by number, which also says where in the set the entry stands; the slice, as for `compare_entry`
     for i in 0..target.machines {
         match compare_entry(set, start + ENTRY_LENGTH * i as usize, target.entry(i)) {
             Ordering::Equal => {}

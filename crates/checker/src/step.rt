@@ -40,12 +40,7 @@ impl<A: QueueAbstraction> Judgement<'_, '_, A> {
                 hints.found(self.k, r, c, place);
                 Ok(())
             }
-            None => Err(Fault {
-                number: Refusal::StepOutside,
-                a: self.k as u32,
-                b: r,
-                c,
-            }),
+            None => Err(self.fault(Refusal::StepOutside, r, c)),
         }
     }
 
@@ -162,6 +157,7 @@ impl<A: QueueAbstraction> Judgement<'_, '_, A> {
             return Ok(());
         }
         let stepper = Numbered { r, rule };
+        // a rule is an enum of actions, each with its own numbers
         match rule.action {
             Action::Local => self.check_local(hints, stepper),
             Action::Take { event } => self.check_take(hints, stepper, event),

@@ -8,7 +8,7 @@ pub lets_meet-requires : goal.lets_meet-requires
 lets_meet-requires g c = record { sound = c.requires; below = omega (arith, patterns_long (table_at c.args.self.now)) }
 
 pub returns-then-lets_meet : goal.returns-then-lets_meet
-returns-then-lets_meet g c = record { finding = met c.args.self.now.k c.loop-n.n; numbered = refl; first = (c.loop-n.n, omega arith, (refl, c.lets_meet.ensures.0 c.if-lets_meet.true), c.loop-n.invariant) }
+returns-then-lets_meet g c = record { finding = met c.args.self.now.k c.loop-n.n; numbered = c.fault.ensures; first = (c.loop-n.n, omega arith, (refl, c.lets_meet.ensures.0 c.if-lets_meet.true), c.loop-n.invariant) }
 
 pub returns : goal.returns
 returns g c = λ j h. c.loop-n.invariant j (omega arith)
