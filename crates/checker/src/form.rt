@@ -47,7 +47,8 @@ impl<A: QueueAbstraction> Case<'_, '_, A> {
         check_fields(self.set.bytes(), &self.header_bounds(), Refusal::SetHeader)
     }
 
-    // The header of the set, and the length that it gives.
+    // The header of the set, and the length that it gives. A table's header is checked alike: one function for both would
+    // take the bounds, two refusals and a way to the length.
     fn check_header(&self) -> Result<(), Fault>
         ensures { Answered (HeaderApplies self.now.table.view.bytes.now self.now.set.bytes.now) header_numbers header_order result }
     {

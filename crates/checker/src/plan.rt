@@ -65,7 +65,8 @@ const NO_LINE: PatternLine = PatternLine {
     },
 };
 
-// Where the rules of a machine from a local state are kept.
+// Where the rules of a machine from a local state are kept. These two are asked for once, of an entry, and go no further
+// than the call.
 fn cell(machine: u8, local: u8) -> usize
     ensures is { result ≡ cell_of machine local }
     ensures small { result < 256 }

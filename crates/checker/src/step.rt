@@ -35,13 +35,11 @@ impl<A: QueueAbstraction> Judgement<'_, '_, A> {
         requires { target.now.machines ≡ machines_n (table_at self.now) }
         ensures { Inside (records_of (machines_n (table_at self.now)) (set_at self.now)) (record_in target.now) self.now.k r c result }
     {
-        match self.judge.case.set.find(target, hints.place(self.k, r, c)) {
-            Some(place) => {
-                hints.found(self.k, r, c, place);
-                Ok(())
-            }
-            None => Err(self.fault(Refusal::StepOutside, r, c)),
-        }
+        let near = hints.place(self.k, r, c);
+        let found = self.judge.case.set.find(target, near);
+        let place = found.ok_or(self.fault(Refusal::StepOutside, r, c))?;
+        hints.found(self.k, r, c, place);
+        Ok(())
     }
 
     // The record that a rule leads to, with that code of its own queue.
@@ -188,6 +186,7 @@ impl<A: QueueAbstraction> Judgement<'_, '_, A> {
         requires { IsSound A.QueueAbstraction self.now }
         ensures { result ≡ true → Nothing (Applies (claim_at A.QueueAbstraction self.now)) (steps (claim_at A.QueueAbstraction self.now) self.now.k) }
     {
+        // each machine changes the hints, which a closure would have to hold
         for i in 0..self.held.machines {
             if !self.machine_inside(hints, i) {
                 return false;
