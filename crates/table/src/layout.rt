@@ -17,6 +17,9 @@ pub const MOST_RULES: usize = 256;
 
 pub const MOST_PATTERN_LINES: usize = 64;
 
+// The most local states of a machine.
+pub const MOST_LOCAL_STATES: u8 = 32;
+
 // Lengths of the lines.
 pub const MACHINE_LINE: usize = 2;
 

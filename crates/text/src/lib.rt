@@ -1,7 +1,7 @@
 // Tables in words that can be held against a sketch of the machines.
 #![tactic(auto)]
 
-use model::mask::has;
+use model::mask::{MOST_EVENTS, has};
 use model::pattern::Condition;
 use model::queue::Front;
 use model::rule::{Action, Rule};
@@ -107,7 +107,7 @@ impl fmt::Display for Held {
             return Ok(());
         }
         write!(f, ", its queue holding")?;
-        for event in 0..8u8 {
+        for event in 0..MOST_EVENTS {
             if has(mask, event) {
                 write!(f, " {event}")?;
             }
