@@ -55,6 +55,7 @@ impl TryFrom<u8> for Kind {
 }
 
 // What a pattern line has in place of a front event or a local state.
+// No enum of its own: the file puts these two bytes among the numbers, and `Front` and Option say what they stand for.
 pub const EMPTY_FRONT: u8 = 254;
 
 pub const ANY: u8 = 255;

@@ -15,6 +15,8 @@ use crate::layout::{
 use crate::line::{Line, PatternLine};
 use model::rule::Rule;
 
+// No one generic view with the checker's `StateSet`: each has parts of its own, and what it stands for
+// is promised by its own reader.
 #[derive(Clone, Copy)]
 pub struct Table<'a> {
     bytes: &'a [u8],
