@@ -10,7 +10,7 @@ use model::queue::Front;
 use model::rule::{Action, Rule};
 
 // A condition, and the number of the pattern that it belongs to.
-#[derive(Clone, Copy)]
+#[derive(Clone, Copy, PartialEq, Eq, Debug)]
 pub struct PatternLine {
     pub number: u8,
     pub condition: Condition,

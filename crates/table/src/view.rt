@@ -17,7 +17,7 @@ use model::rule::Rule;
 
 // No one generic view with the checker's `StateSet`: each has parts of its own, and what it stands for
 // is promised by its own reader.
-#[derive(Clone, Copy)]
+#[derive(Clone, Copy, PartialEq, Eq, Debug)]
 pub struct Table<'a> {
     bytes: &'a [u8],
 }
