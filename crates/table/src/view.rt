@@ -85,10 +85,7 @@ impl<'a> Table<'a> {
     pub fn local_states(&self, machine: u16) -> Option<u8>
         ensures { result ≡ slice_get (system_of self.now.bytes.now).states machine }
     {
-        if machine >= self.machine_count() {
-            return None;
-        }
-        Some(self.line_at(machine_offset(machine)).byte(0))
+        (machine < self.machine_count()).then_some(self.line_at(machine_offset(machine)).byte(0))
     }
 
     // The rule of that number, if there is one.
@@ -96,10 +93,7 @@ impl<'a> Table<'a> {
     pub fn rule(&self, number: u16) -> Option<Rule>
         ensures { result ≡ slice_get (system_of self.now.bytes.now).rules number }
     {
-        if number >= self.rule_count() {
-            return None;
-        }
-        Some(self.line_at(self.rule_offset(number)).rule())
+        (number < self.rule_count()).then_some(self.line_at(self.rule_offset(number)).rule())
     }
 
     // The pattern line of that number, if there is one.
@@ -107,10 +101,9 @@ impl<'a> Table<'a> {
     pub fn pattern_line(&self, number: u16) -> Option<PatternLine>
         ensures { result ≡ slice_get (pattern_lines_of self.now.bytes.now) number }
     {
-        if number >= self.pattern_line_count() {
-            return None;
-        }
-        Some(self.line_at(self.pattern_offset(number)).pattern_line())
+        (number < self.pattern_line_count()).then_some(
+            self.line_at(self.pattern_offset(number)).pattern_line(),
+        )
     }
 
     // The line that begins at an offset.
