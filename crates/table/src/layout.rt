@@ -21,11 +21,11 @@ pub const MOST_PATTERN_LINES: usize = 64;
 pub const MOST_LOCAL_STATES: u8 = 32;
 
 // Lengths of the lines.
-pub const MACHINE_LINE: usize = 2;
+pub const MACHINE_LINE: u32 = 2;
 
-pub const RULE_LINE: usize = 6;
+pub const RULE_LINE: u32 = 6;
 
-pub const PATTERN_LINE: usize = 6;
+pub const PATTERN_LINE: u32 = 6;
 
 // The kinds of rule, each by the byte that stands for it.
 #[derive(Clone, Copy, PartialEq, Eq, Debug)]

@@ -87,7 +87,7 @@ impl Line<'_> {
         }
         let before = Line {
             bytes: self.bytes,
-            offset: self.offset - PATTERN_LINE as u32,
+            offset: self.offset - PATTERN_LINE,
         };
         let last = before.byte(0);
         if number == last {

@@ -122,14 +122,14 @@ impl<'a> Table<'a> {
         ensures is { result ≡ rule_offset self.now.bytes.now number }
         ensures small { result < 2 ^ 20 }
     {
-        machine_offset(word(self.bytes, MACHINE_COUNT)) + RULE_LINE as u32 * u32::from(number)
+        machine_offset(word(self.bytes, MACHINE_COUNT)) + RULE_LINE * u32::from(number)
     }
 
     // Where a pattern line begins.
     pub(crate) fn pattern_offset(&self, number: u16) -> u32
         ensures { result ≡ pattern_offset self.now.bytes.now number }
     {
-        self.rule_offset(word(self.bytes, RULE_COUNT)) + PATTERN_LINE as u32 * u32::from(number)
+        self.rule_offset(word(self.bytes, RULE_COUNT)) + PATTERN_LINE * u32::from(number)
     }
 }
 
@@ -137,5 +137,5 @@ impl<'a> Table<'a> {
 pub(crate) fn machine_offset(machine: u16) -> u32
     ensures { result ≡ machine_offset machine }
 {
-    HEADER_LENGTH as u32 + MACHINE_LINE as u32 * u32::from(machine)
+    HEADER_LENGTH as u32 + MACHINE_LINE * u32::from(machine)
 }
