@@ -19,10 +19,7 @@ fn check_lines<C: Fn(u16) -> Result<(), Fault>>(count: u16, check: C) -> Result<
     requires { C.IsAlwaysCallable check }
     ensures { FirstErr count (C.post check) result }
 {
-    for line in 0..count {
-        check(line)?;
-    }
-    Ok(())
+    (0..count).try_for_each(check)
 }
 
 impl<'a> Table<'a> {
