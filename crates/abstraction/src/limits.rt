@@ -2,7 +2,7 @@
 ghost use Rattle.std.specs.Prelude.{Decides};
 ghost use Rattle.abstraction.specs.Meaning.{Valid};
 
-pub const MOST_EVENTS: u8 = 8;
+pub use model::mask::MOST_EVENTS;
 
 pub const WIDEST_CODE: u8 = 60;
 

@@ -2,12 +2,15 @@
 ghost use Rattle.std.specs.Prelude.{◌≡◌, ◌^◌, ◌<◌, ◌≤◌, Decides};
 ghost use Rattle.model.specs.Queue.{present};
 
+// A mask has a bit for each event.
+pub const MOST_EVENTS: u8 = 8;
+
 // The mask of one event; nothing from 8 up.
 pub fn bit(e: u8) -> u8
     ensures event { e < 8 → result ≡ 2 ^ e }
     ensures nothing { 8 ≤ e → result ≡ 0 }
 {
-    if e < 8 { 1 << e } else { 0 }
+    if e < MOST_EVENTS { 1 << e } else { 0 }
 }
 
 // Does the mask name events below m only?

@@ -17,12 +17,15 @@ pub const MOST_RULES: usize = 256;
 
 pub const MOST_PATTERN_LINES: usize = 64;
 
+// The most local states of a machine.
+pub const MOST_LOCAL_STATES: u8 = 32;
+
 // Lengths of the lines.
-pub const MACHINE_LINE: usize = 2;
+pub const MACHINE_LINE: u32 = 2;
 
-pub const RULE_LINE: usize = 6;
+pub const RULE_LINE: u32 = 6;
 
-pub const PATTERN_LINE: usize = 6;
+pub const PATTERN_LINE: u32 = 6;
 
 // The kinds of rule, each by the byte that stands for it.
 #[derive(Clone, Copy, PartialEq, Eq, Debug)]
@@ -52,6 +55,7 @@ impl TryFrom<u8> for Kind {
 }
 
 // What a pattern line has in place of a front event or a local state.
+// No enum of its own: the file puts these two bytes among the numbers, and `Front` and Option say what they stand for.
 pub const EMPTY_FRONT: u8 = 254;
 
 pub const ANY: u8 = 255;

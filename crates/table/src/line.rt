@@ -10,7 +10,7 @@ use model::queue::Front;
 use model::rule::{Action, Rule};
 
 // A condition, and the number of the pattern that it belongs to.
-#[derive(Clone, Copy)]
+#[derive(Clone, Copy, PartialEq, Eq, Debug)]
 pub struct PatternLine {
     pub number: u8,
     pub condition: Condition,
@@ -60,6 +60,7 @@ impl Line<'_> {
 }
 
 // The action that a kind, an event and a target stand for.
+// No `From`: what the bytes stand for is the file's, and all these types are other crates'.
 fn action(kind: u8, event: u8, target: u8) -> Action
     ensures { result ≡ action_of kind event target }
 {
@@ -75,10 +76,11 @@ fn action(kind: u8, event: u8, target: u8) -> Action
 fn local(byte: u8) -> Option<u8>
     ensures { result ≡ local_of byte }
 {
-    if byte == ANY { None } else { Some(byte) }
+    (byte != ANY).then_some(byte)
 }
 
 // The front that a condition names.
+// No `From`: what a byte stands for is the file's, and both types are other crates'.
 fn front(byte: u8) -> Front
     ensures { result ≡ front_of byte }
 {

@@ -9,14 +9,12 @@ ghost use Rattle.table.specs.Findings.{states_at, GoodMachineAt, GoodAction, Goo
 
 use crate::bytes::{byte, word};
 use crate::header::fault_at;
-use crate::layout::{EVENT_COUNT, Kind, MACHINE_COUNT, PATTERN_LINE};
+use crate::layout::{EVENT_COUNT, Kind, MACHINE_COUNT, MOST_LOCAL_STATES, PATTERN_LINE};
 use crate::line::Line;
 use crate::view::machine_offset;
 use model::fault::{Fault, Refusal};
 use model::mask::fits;
 use model::queue::Front;
-
-const MOST_LOCAL_STATES: u8 = 32;
 
 impl Line<'_> {
     // A refusal with the line's offset, unless the line is good.
@@ -89,7 +87,7 @@ impl Line<'_> {
         }
         let before = Line {
             bytes: self.bytes,
-            offset: self.offset - PATTERN_LINE as u32,
+            offset: self.offset - PATTERN_LINE,
         };
         let last = before.byte(0);
         if number == last {

@@ -12,16 +12,14 @@ use crate::header::{FIELDS, HEADER_LENGTH, check_fields, fault_at};
 use crate::layout::{MOST_MACHINES, MOST_PATTERN_LINES, MOST_RULES};
 use crate::view::{Table, machine_offset};
 use model::fault::{Fault, Refusal};
+use model::mask::MOST_EVENTS;
 
 // The first of `count` lines that `check` refuses.
 fn check_lines<C: Fn(u16) -> Result<(), Fault>>(count: u16, check: C) -> Result<(), Fault>
     requires { C.IsAlwaysCallable check }
     ensures { FirstErr count (C.post check) result }
 {
-    for line in 0..count {
-        check(line)?;
-    }
-    Ok(())
+    (0..count).try_for_each(check)
 }
 
 impl<'a> Table<'a> {
@@ -35,7 +33,7 @@ impl<'a> Table<'a> {
         [
             (1, 1),
             (1, MOST_MACHINES as u32),
-            (1, 8),
+            (1, u32::from(MOST_EVENTS)),
             (0, MOST_RULES as u32),
             (0, MOST_PATTERN_LINES as u32),
             (machines_at, machines_at),

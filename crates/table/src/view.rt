@@ -15,7 +15,9 @@ use crate::layout::{
 use crate::line::{Line, PatternLine};
 use model::rule::Rule;
 
-#[derive(Clone, Copy)]
+// No one generic view with the checker's `StateSet`: each has parts of its own, and what it stands for
+// is promised by its own reader.
+#[derive(Clone, Copy, PartialEq, Eq, Debug)]
 pub struct Table<'a> {
     bytes: &'a [u8],
 }
@@ -83,10 +85,7 @@ impl<'a> Table<'a> {
     pub fn local_states(&self, machine: u16) -> Option<u8>
         ensures { result ≡ slice_get (system_of self.now.bytes.now).states machine }
     {
-        if machine >= self.machine_count() {
-            return None;
-        }
-        Some(self.line_at(machine_offset(machine)).byte(0))
+        (machine < self.machine_count()).then_some(self.line_at(machine_offset(machine)).byte(0))
     }
 
     // The rule of that number, if there is one.
@@ -94,10 +93,7 @@ impl<'a> Table<'a> {
     pub fn rule(&self, number: u16) -> Option<Rule>
         ensures { result ≡ slice_get (system_of self.now.bytes.now).rules number }
     {
-        if number >= self.rule_count() {
-            return None;
-        }
-        Some(self.line_at(self.rule_offset(number)).rule())
+        (number < self.rule_count()).then_some(self.line_at(self.rule_offset(number)).rule())
     }
 
     // The pattern line of that number, if there is one.
@@ -105,10 +101,9 @@ impl<'a> Table<'a> {
     pub fn pattern_line(&self, number: u16) -> Option<PatternLine>
         ensures { result ≡ slice_get (pattern_lines_of self.now.bytes.now) number }
     {
-        if number >= self.pattern_line_count() {
-            return None;
-        }
-        Some(self.line_at(self.pattern_offset(number)).pattern_line())
+        (number < self.pattern_line_count()).then_some(
+            self.line_at(self.pattern_offset(number)).pattern_line(),
+        )
     }
 
     // The line that begins at an offset.
@@ -127,14 +122,14 @@ impl<'a> Table<'a> {
         ensures is { result ≡ rule_offset self.now.bytes.now number }
         ensures small { result < 2 ^ 20 }
     {
-        machine_offset(word(self.bytes, MACHINE_COUNT)) + RULE_LINE as u32 * u32::from(number)
+        machine_offset(word(self.bytes, MACHINE_COUNT)) + RULE_LINE * u32::from(number)
     }
 
     // Where a pattern line begins.
     pub(crate) fn pattern_offset(&self, number: u16) -> u32
         ensures { result ≡ pattern_offset self.now.bytes.now number }
     {
-        self.rule_offset(word(self.bytes, RULE_COUNT)) + PATTERN_LINE as u32 * u32::from(number)
+        self.rule_offset(word(self.bytes, RULE_COUNT)) + PATTERN_LINE * u32::from(number)
     }
 }
 
@@ -142,5 +137,5 @@ impl<'a> Table<'a> {
 pub(crate) fn machine_offset(machine: u16) -> u32
     ensures { result ≡ machine_offset machine }
 {
-    HEADER_LENGTH as u32 + MACHINE_LINE as u32 * u32::from(machine)
+    HEADER_LENGTH as u32 + MACHINE_LINE * u32::from(machine)
 }

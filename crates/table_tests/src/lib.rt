@@ -144,6 +144,7 @@ mod tests {
     ];
 
     // The refusal's number and place; 0 and 0 where the table reads.
+    // Numbers, as the tables of this file have them and as callers of the C interface see them.
     fn verdict(bytes: &[u8]) -> (u8, u32) {
         match Table::read(bytes) {
             Ok(_) => (0, 0),
@@ -152,8 +153,8 @@ mod tests {
     }
 
     fn changed(bytes: &mut [u8], offset: usize, value: u8) {
-        if offset < bytes.len() {
-            bytes[offset] = value;
+        if let Some(byte) = bytes.get_mut(offset) {
+            *byte = value;
         }
     }
 
@@ -185,10 +186,7 @@ mod tests {
     }
 
     fn push_word(bytes: &mut Vec<u8>, word: u16) -> Result<(), AllocError> {
-        for byte in word.to_le_bytes() {
-            bytes.push(byte)?;
-        }
-        Ok(())
+        bytes.extend_from_slice(&word.to_le_bytes())
     }
 
     // A table with those counts, its offsets and its length by them, and `more` bytes after its end.
@@ -208,19 +206,12 @@ mod tests {
         for _ in 0..machines {
             push_word(&mut bytes, 1)?;
         }
-        for _ in 0..rules {
-            for byte in [0u8; 6] {
-                bytes.push(byte)?;
-            }
-        }
+        bytes.resize(usize::from(patterns_at), 0)?;
         for line in 0..lines {
-            for byte in [(line % 256) as u8, 0, 0, 0, 0, 0] {
-                bytes.push(byte)?;
-            }
+            bytes.extend_from_slice(&[(line % 256) as u8, 0, 0, 0, 0, 0])?;
         }
-        for _ in 0..more {
-            bytes.push(0)?;
-        }
+        let length = bytes.len().saturating_add(usize::from(more));
+        bytes.resize(length, 0)?;
         Ok(bytes)
     }
 

@@ -1,7 +1,7 @@
 // Tables in words that can be held against a sketch of the machines.
 #![tactic(auto)]
 
-use model::mask::has;
+use model::mask::{MOST_EVENTS, has};
 use model::pattern::Condition;
 use model::queue::Front;
 use model::rule::{Action, Rule};
@@ -35,10 +35,8 @@ impl fmt::Display for InWords<'_> {
                 writeln!(f, "rule {number}: {}", Words(rule))?;
             }
         }
-        for number in 0..table.pattern_line_count() {
-            if let Some(line) = table.pattern_line(number) {
-                writeln!(f, "pattern {}: {}", line.number, Words(line.condition))?;
-            }
+        for line in (0..table.pattern_line_count()).filter_map(|line| table.pattern_line(line)) {
+            writeln!(f, "pattern {}: {}", line.number, Words(line.condition))?;
         }
         Ok(())
     }
@@ -62,6 +60,7 @@ impl fmt::Display for Words<Rule> {
     }
 }
 
+// A match, since a rule is an enum of actions with numbers of their own.
 impl fmt::Display for Words<Action> {
     fn fmt<W: fmt::Write>(&self, f: &mut fmt::Formatter<W>) -> fmt::Result {
         match self.0 {
@@ -107,7 +106,7 @@ impl fmt::Display for Held {
             return Ok(());
         }
         write!(f, ", its queue holding")?;
-        for event in 0..8u8 {
+        for event in 0..MOST_EVENTS {
             if has(mask, event) {
                 write!(f, " {event}")?;
             }
