@@ -30,18 +30,13 @@ pub fn worked_values()
     ensures { Worked }
 {}
 
-fn keep<A>(below: A) -> KeepFirst<A>
-    ensures { result.below ≡ below }
-{
-    KeepFirst { below }
-}
-
 // The widths of seven and of eight layers over the list: the last that is in use, and the first that is not.
 pub fn layer_widths() -> (u8, u8)
     ensures { result ≡ (60, 64) }
 {
-    let three = keep(keep(keep(ListAbstraction)));
-    let seven = keep(keep(keep(keep(three))));
-    let eight = keep(seven);
+    let three = KeepFirst::over(KeepFirst::over(KeepFirst::over(ListAbstraction)));
+    let six = KeepFirst::over(KeepFirst::over(KeepFirst::over(three)));
+    let seven = KeepFirst::over(six);
+    let eight = KeepFirst::over(seven);
     (seven.width(), eight.width())
 }

@@ -1,5 +1,4 @@
 // The least and the greatest of what the calls take: numbers of events, widths, bits above the width.
-use crate::keep;
 use abstraction::QueueAbstraction;
 use blank_abstraction::BlankAbstraction;
 use keep_first::KeepFirst;
@@ -12,8 +11,12 @@ type ThreeKept<A> = KeepFirst<KeepFirst<KeepFirst<A>>>;
 
 type SevenKept = KeepFirst<ThreeKept<ThreeKept<ListAbstraction>>>;
 
+fn three_kept<A>(below: A) -> ThreeKept<A> {
+    KeepFirst::over(KeepFirst::over(KeepFirst::over(below)))
+}
+
 fn seven_kept() -> SevenKept {
-    keep(keep(keep(keep(keep(keep(keep(ListAbstraction)))))))
+    KeepFirst::over(three_kept(three_kept(ListAbstraction)))
 }
 
 // A code that is not good gets no answer from any call.
@@ -49,7 +52,7 @@ fn numbers_of_events(rt: HostRuntime) {
     takes_one_to_eight(&rt, &ListAbstraction);
     takes_one_to_eight(&rt, &SetAbstraction);
     takes_one_to_eight(&rt, &BlankAbstraction);
-    takes_one_to_eight(&rt, &keep(ListAbstraction));
+    takes_one_to_eight(&rt, &KeepFirst::over(ListAbstraction));
     takes_one_to_eight(&rt, &seven_kept());
 }
 
@@ -82,7 +85,7 @@ fn bits_above_the_width(rt: HostRuntime) {
         refuses(&rt, &BlankAbstraction, 8, c);
     }
     for c in [16, 17, 1 << 60, u64::MAX] {
-        refuses(&rt, &keep(BlankAbstraction), 8, c);
+        refuses(&rt, &KeepFirst::over(BlankAbstraction), 8, c);
     }
 }
 
@@ -96,7 +99,7 @@ fn widest(rt: HostRuntime) {
     assert!(rt; seven.append(8, 0x111_1111, 3) == Some(0x4111_1111));
     assert!(rt; seven.removal(8, full, 8) == Some((0, 0x187_6543_2111_1111)));
     refuses(&rt, &seven, 8, full + (1 << 60));
-    let eight = keep(seven);
+    let eight = KeepFirst::over(seven);
     assert_eq!(rt; eight.width(), 64);
     for c in [0, 1, 0x1111_1111, u64::MAX] {
         refuses(&rt, &eight, 8, c);

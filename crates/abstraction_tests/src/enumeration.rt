@@ -1,8 +1,8 @@
 // Each abstraction against all queues of at most five events, over one, two and three events. That many show every
 // removal and every answer of allows here, with up to one layer.
-use crate::keep;
 use abstraction::QueueAbstraction;
 use blank_abstraction::BlankAbstraction;
+use keep_first::KeepFirst;
 use list_abstraction::ListAbstraction;
 use model::queue::Front;
 use set_abstraction::SetAbstraction;
@@ -187,7 +187,13 @@ fn list(rt: HostRuntime) {
     for m in 1..4 {
         let codes = codes_of(m, list_of);
         compare(&rt, &ListAbstraction, m, &codes, 0x1000);
-        compare(&rt, &keep(ListAbstraction), m, &kept(&codes), 0x4000);
+        compare(
+            &rt,
+            &KeepFirst::over(ListAbstraction),
+            m,
+            &kept(&codes),
+            0x4000,
+        );
     }
 }
 
@@ -196,7 +202,13 @@ fn set(rt: HostRuntime) {
     for m in 1..4 {
         let codes = codes_of(m, |queue| u64::from(mask_of(queue)));
         compare(&rt, &SetAbstraction, m, &codes, 0x200);
-        compare(&rt, &keep(SetAbstraction), m, &kept(&codes), 0x400);
+        compare(
+            &rt,
+            &KeepFirst::over(SetAbstraction),
+            m,
+            &kept(&codes),
+            0x400,
+        );
     }
 }
 
@@ -205,7 +217,13 @@ fn blank(rt: HostRuntime) {
     for m in 1..4 {
         let codes = codes_of(m, |_| 0);
         compare(&rt, &BlankAbstraction, m, &codes, 0x10);
-        compare(&rt, &keep(BlankAbstraction), m, &kept(&codes), 0x100);
+        compare(
+            &rt,
+            &KeepFirst::over(BlankAbstraction),
+            m,
+            &kept(&codes),
+            0x100,
+        );
     }
 }
 
@@ -214,6 +232,12 @@ fn blank(rt: HostRuntime) {
 fn two_layers(rt: HostRuntime) {
     for m in 1..3 {
         let codes = kept(&kept(&codes_of(m, list_of)));
-        compare(&rt, &keep(keep(ListAbstraction)), m, &codes, 0x4000);
+        compare(
+            &rt,
+            &KeepFirst::over(KeepFirst::over(ListAbstraction)),
+            m,
+            &codes,
+            0x4000,
+        );
     }
 }

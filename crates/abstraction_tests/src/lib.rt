@@ -2,14 +2,6 @@
 #![tactic(auto)]
 
 #[cfg(test)]
-use keep_first::KeepFirst;
-
-#[cfg(test)]
 mod edges;
 #[cfg(test)]
 mod enumeration;
-
-#[cfg(test)]
-fn keep<A>(below: A) -> KeepFirst<A> {
-    KeepFirst { below }
-}

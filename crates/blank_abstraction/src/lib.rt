@@ -51,9 +51,7 @@ impl QueueAbstraction for BlankAbstraction {
     }
 
     fn removal(&self, m: u8, c: u64, k: u64) -> Option<(u8, u64)> {
-        let Ok(e) = u8::try_from(k) else {
-            return None;
-        };
+        let e = u8::try_from(k).ok()?;
         (self.good(m, c) && e < m).then_some((e, 0))
     }
 }

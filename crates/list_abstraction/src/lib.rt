@@ -98,10 +98,7 @@ impl QueueAbstraction for ListAbstraction {
     // The first event may wait nowhere behind, or before any of the others, or behind them all.
     fn removal(&self, m: u8, c: u64, k: u64) -> Option<(u8, u64)> {
         let listed = read(m, c)?;
-        if c == 0 {
-            return None;
-        }
-        let e = (c % 16) as u8 - 1;
+        let e = ((c % 16) as u8).checked_sub(1)?;
         let rest = c / 16;
         if k == 0 {
             return Some((e, rest));

@@ -1,8 +1,10 @@
-use Rattle.std.proofs.Common.{◌≡◌, ℕ, ◌≤◌, Bool, true, false, ltb, cond, Some, None, [], inl, inr, sym, refl, ap, ◌∙◌, arith}
+use Rattle.std.proofs.Common.{◌≡◌, ℕ, ◌<◌, ◌≤◌, Bool, true, false, ltb, cond, Some, None, Option, Ok, Err, Result, [], inl, inr, sym, refl, ap, ◌∙◌, subst, arith}
 use Rattle.std.proofs.lemmas.Bool.{cases_lt}
 use Rattle.std.proofs.lemmas.Bool.Decides.{nat_tests, not_from_Decides}
 use Rattle.std.specs.Bool.{then_some}
 use Rattle.std.specs.List.{slice_get}
+use Rattle.std.specs.Option.{SomeIff}
+use Rattle.std.specs.Result.{OkIff, result_ok}
 use Rattle.model.proofs.Counted.{nth_counted}
 use Rattle.abstraction.proofs.Nth.{nothing}
 use Rattle.abstraction.proofs.Calls.{no_removal}
@@ -15,8 +17,15 @@ use Rattle.blank_abstraction.proofs.BlankAbstractionQueueAbstraction.removal.Goa
 beyond : (m c k : ℕ) → m ≤ k → None ≡ slice_get (blank_removals m c) k
 beyond m c k l = nothing _ (λ (e, d) h. omega (arith, removal_event m c k e d h))
 
-pub returns-in_default : goal.returns-in_default
-returns-in_default c = beyond c.args.m c.args.c c.args.k (omega (arith, c.in_default.ensures))
+-- what is left of a conversion's answer without its error
+ok_told : {E : Type 0} (r : Result ℕ E) (o : Option ℕ) (P : Type 0) (k : ℕ) → OkIff r P k → o ≡ result_ok r → SomeIff o P k
+ok_told (Ok x) o P k h q = subst (λ (y : Option ℕ). SomeIff y P k) (sym q) h
+ok_told (Err d) o P k h q = subst (λ (y : Option ℕ). SomeIff y P k) (sym q) h
+
+pub returns-in_err-e : goal.returns-in_err-e
+returns-in_err-e c =
+    let t = subst (λ (o : Option ℕ). SomeIff o (c.args.k < 256) c.args.k) c.in_err-e.was (ok_told _ _ _ _ c.try_from.ensures c.ok.ensures.value) in
+    c.from_residual.ensures ∙ beyond c.args.m c.args.c c.args.k (omega (arith, t))
 
 at : (m c k e : ℕ) → blank_good m c ≡ true → e ≡ k → then_some (ltb e m) (e, 0) ≡ slice_get (blank_removals m c) k
 at m c k e t p = elim (cases_lt e m) [
@@ -29,13 +38,13 @@ at m c k e t p = elim (cases_lt e m) [
 
 pub returns : goal.returns
 returns c =
-    let e = c.in-Ok.e in
+    let e = c.in_ok-e.e in
     c.then_some.ensures ∙ elim c.if-good.branch [
       | then-good w ↦ (
           let g = w.if-good.ensures.0 refl in
           let v = g.valid in
           let z : 0 ≡ c.args.c = g.coded in
           let t : blank_good c.args.m c.args.c ≡ true = grind (arith, nat_tests) in
-          ap (λ (x : Bool). then_some x (e, 0)) w.then_some-is ∙ at c.args.m c.args.c c.args.k e t c.in-Ok.ensures.1)
+          ap (λ (x : Bool). then_some x (e, 0)) w.then_some-is ∙ at c.args.m c.args.c c.args.k e t (subst (λ (o : Option ℕ). SomeIff o (c.args.k < 256) c.args.k) c.in_ok-e.was (ok_told _ _ _ _ c.try_from.ensures c.ok.ensures.value)).1)
       | else-good w ↦ ap (λ (x : Bool). then_some x (e, 0)) (w.then_some-is ∙ w.if-good.false) ∙ no_removal blank_meaning c.args.m c.args.c c.args.k (not_from_Decides _ c.good.ensures w.if-good.false)
     ]

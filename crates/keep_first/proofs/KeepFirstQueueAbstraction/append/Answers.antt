@@ -1,27 +1,36 @@
-use Rattle.std.proofs.Common.{◌≡◌, ℕ, ◌^◌, ◌<◌, [], Some, None, sym, refl, ◌∙◌, subst, arith}
+use Rattle.std.proofs.Common.{◌≡◌, ℕ, ◌^◌, ◌<◌, true, ltb, [], Some, None, sym, refl, ◌∙◌, subst, arith}
+use Rattle.std.proofs.lemmas.Bool.{false≢true}
+use Rattle.std.proofs.lemmas.Bool.Decides.{nat_tests}
 use Rattle.abstraction.specs.Meaning.{Valid, Appended}
 use Rattle.keep_first.specs.KeepFirst.{Split, keep_bits, keep_code}
 use Rattle.keep_first.specs.Kept.{narrow_below, valid_below, append_up, append_small, good_parts}
 use Rattle.keep_first.proofs.KeepFirstQueueAbstraction.append.Goals as goal
+use Rattle.keep_first.proofs.KeepFirstQueueAbstraction.append.Goals.{then-valid, else-valid}
 
-pub join-requires : goal.join-requires
-join-requires g c =
-    let p = c.args.self.now.below in
-    let w = g.A.QueueAbstraction.bits p in
-    let code = g.A.QueueAbstraction.code p in
-    let law = g.met.A.QueueAbstraction.meaning p in
-    let v : Valid c.args.m (keep_bits w) = subst (Valid c.args.m) c.width.ensures (c.if-valid.ensures.0 refl) in
-    let s = law.small c.args.m [] (valid_below w v) tt in
-    let e : c.empty.result ≡ code c.args.m [] = c.empty.ensures ∙ sym (law.start c.args.m) in
-    (omega arith, narrow_below w _ v (subst (λ (x : ℕ). x < 2 ^ w) (sym e) s))
+pub then-requires : goal.then-requires
+then-requires g c = λ t. elim c.if-valid.branch [
+  | then-valid w ↦ λ _ _ _ _ _ _. (
+      let p = c.args.self.now.below in
+      let bits = g.A.QueueAbstraction.bits p in
+      let code = g.A.QueueAbstraction.code p in
+      let law = g.met.A.QueueAbstraction.meaning p in
+      let v : Valid c.args.m (keep_bits bits) = subst (Valid c.args.m) c.width.ensures (w.if-valid.ensures.0 refl) in
+      let s = law.small c.args.m [] (valid_below bits v) tt in
+      let e : c.empty-rest.result ≡ code c.args.m [] = c.empty-rest.ensures ∙ sym (law.start c.args.m) in
+      let n = narrow_below bits _ v (subst (λ (x : ℕ). x < 2 ^ bits) (sym e) s) in
+      let b : ltb c.args.e c.args.m ≡ true = sym w.then-is ∙ t in
+      let l : c.args.e < c.args.m = grind (arith, nat_tests) in
+      (omega (arith, l, v.few), omega (arith, n)))
+  | else-valid w ↦ absurd (false≢true (sym (w.then-is ∙ w.if-valid.false) ∙ t))
+]
 
 pub returns-in_err-first : goal.returns-in_err-first
 returns-in_err-first g c =
     let s = subst (λ (w : ℕ). Split w c.args.m c.args.c None) c.width-2.ensures c.in_err-first.ensures in
     rw c.from_residual.ensures (λ h l. good_parts _ _ _ _ c.if-c-eq0.false s h)
 
-pub join-requires-2 : goal.join-requires-2
-join-requires-2 g c =
+pub join-requires : goal.join-requires
+join-requires g c =
     let p = c.args.self.now.below in
     let w = g.A.QueueAbstraction.bits p in
     let s = c.in_ok-first.ensures in
@@ -35,5 +44,5 @@ returns g c =
     let code = g.A.QueueAbstraction.code p in
     let s = c.in_ok-first.ensures in
     let v : Valid c.args.m (keep_bits w) = subst (Valid c.args.m) c.width-2.ensures s.0 in
-    subst (λ (x : ℕ). Appended (keep_bits w) (keep_code code) c.args.m c.args.c c.args.e (Some x)) (sym c.join-2.ensures)
+    subst (λ (x : ℕ). Appended (keep_bits w) (keep_code code) c.args.m c.args.c c.args.e (Some x)) (sym c.join.ensures)
     (append_up w code c.args.m c.args.c c.args.e _ _ _ v s.1 s.2 c.in_ok-append.ensures)
