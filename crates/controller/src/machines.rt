@@ -63,20 +63,16 @@ impl Machines {
     fn local(&self, machine: u8) -> u8
         ensures { result ≡ local_at self.now machine }
     {
-        match self.held().get(machine as usize) {
-            Some(entry) => entry.local(),
-            None => 0,
-        }
+        self.held().get(machine as usize).map_or(0, Entry::local)
     }
 
     // The events that wait for a machine; where there is no such machine, none.
     fn events(&self, machine: u8) -> &[u8]
         ensures { result.now ≡ queue_at self.now machine }
     {
-        match self.held().get(machine as usize) {
-            Some(entry) => entry.events(),
-            None => &[],
-        }
+        self.held()
+            .get(machine as usize)
+            .map_or(&[], Entry::events)
     }
 
     // What a look sees of a machine and a place of its queue, if there is such a machine.
