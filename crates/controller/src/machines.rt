@@ -95,6 +95,7 @@ impl Machines {
         if self.local(rule.machine) != rule.from {
             return Err(Refusal::OtherState);
         }
+        // A match: an action is an enum, whose kinds carry numbers of their own.
         match rule.action {
             Action::Local => Ok(()),
             Action::Take { event } => may_take(self.events(rule.machine), event),
@@ -112,6 +113,7 @@ impl Machines {
     fn follow(&mut self, rule: Rule)
         ensures { self.new ≡ moved rule (left rule.action (queue_at self.old rule.machine)) self.old }
     {
+        // By its number: `get_mut` says nothing of what its slice ends as, so with it the proof does not close.
         if rule.machine < self.count {
             self.entries[rule.machine as usize].follow(rule);
         }
@@ -122,6 +124,7 @@ impl Machines {
         requires { length (queue_at self.old target) < 32 }
         ensures { self.new ≡ sent event target self.old }
     {
+        // By its number, as in `follow`.
         if target < self.count {
             self.entries[target as usize].receive(event);
         }
