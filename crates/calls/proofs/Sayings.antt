@@ -1,11 +1,11 @@
 -- A line says one thing at the most.
-use Rattle.std.proofs.Common.{◌≡◌, ℕ, ◌+◌, ◌<◌, List, ◌∷◌, ◌++◌, get_or, codes, decimal, sym, refl, ap, ◌∙◌, subst, arith}
+use Rattle.std.proofs.Common.{◌≡◌, ℕ, ◌+◌, ◌<◌, Option, Some, None, MatchOption, List, ◌∷◌, ◌++◌, get_or, codes, decimal, sym, refl, ap, ◌∙◌, subst, arith}
 use Rattle.std.proofs.lemmas.Fmt.{decimal_is_IsNumeral}
 use Rattle.controller.specs.declared.call.Call.{Call}
 use Rattle.controller.specs.declared.call.Call.TheVariants.{Fire, Reset, Look}
 use Rattle.calls.specs.declared.line.Line.{Line}
 use Rattle.calls.specs.declared.line.Line.TheVariants.{Skipped, Capacity, Call as Asked, NotUnderstood}
-use Rattle.calls.specs.Numbers.{Writes, WritesTwo}
+use Rattle.calls.specs.Numbers.{Finds, Writes, WritesTwo}
 use Rattle.calls.specs.Reading.{After, Asks, Says, Reads, InRange, written}
 use Rattle.calls.proofs.Cuts.{same_number, same_numbers}
 use Rattle.calls.proofs.Parts.{same_rest}
@@ -54,7 +54,7 @@ says_one : (line : List ℕ) (s t : Line) → Says line s → Says line t → s 
 says_one line s t p q = one line s t p q (sym (begins line s p) ∙ begins line t q)
 
 -- what is not skipped, sets no capacity and asks for nothing says nothing
-pub says_nothing : (line : List ℕ) → (Says line Skipped → ⊥) → ((n : ℕ) → Says line (Capacity n) → ⊥) → ((call : Call) → Says line (Asked call) → ⊥) → (other : Line) → Says line other → ⊥
+says_nothing : (line : List ℕ) → (Says line Skipped → ⊥) → ((n : ℕ) → Says line (Capacity n) → ⊥) → ((call : Call) → Says line (Asked call) → ⊥) → (other : Line) → Says line other → ⊥
 says_nothing line skip capacity call Skipped h = skip h
 says_nothing line skip capacity call (Capacity n) h = capacity n h
 says_nothing line skip capacity call (Asked x) h = call x h
@@ -115,13 +115,25 @@ reads_said line (Capacity n) h = h
 reads_said line (Asked call) h = h
 reads_said line NotUnderstood h = absurd h
 
--- what is promised of a line that says something, and of one that says nothing
-pub said : (line : List ℕ) (s : Line) → Says line s → record { reads : Reads line s; only : (other : Line) → Reads line other → other ≡ s; back : (call : Call) → InRange call → line ≡ written call → s ≡ Asked call }
+-- what is promised of a line that is read as s
+abbrev Told : List ℕ → Line → Type 0
+Told line s =
+    record { reads : Reads line s; only : (other : Line) → Reads line other → other ≡ s; back : (call : Call) → InRange call → line ≡ written call → s ≡ Asked call }
+
+-- of a line that says something, and of one that says nothing
+pub said : (line : List ℕ) (s : Line) → Says line s → Told line s
 said line s h =
     let only = reads_one line s h in
     record { reads = reads_said line s h; only = only; back = reads_back line s only }
 
-pub unsaid : (line : List ℕ) → ((other : Line) → Says line other → ⊥) → record { reads : Reads line NotUnderstood; only : (other : Line) → Reads line other → other ≡ NotUnderstood; back : (call : Call) → InRange call → line ≡ written call → NotUnderstood ≡ Asked call }
+unsaid : (line : List ℕ) → ((other : Line) → Says line other → ⊥) → Told line NotUnderstood
 unsaid line h =
     let only = reads_none line h in
     record { reads = h; only = only; back = reads_back line NotUnderstood only }
+
+-- what is not skipped and sets no capacity reads as the call that it asks for, if any
+pub reads_call : (line : List ℕ) (found : Option Call) → (Says line Skipped → ⊥) → ((n : ℕ) → Says line (Capacity n) → ⊥) → Finds (Asks line) found → (s : Line) → MatchOption found (s ≡ NotUnderstood) (λ call. s ≡ Asked call) → Told line s
+reads_call line (Some call) skip capacity h s is =
+    subst (Told line) (sym is) (said line (Asked call) h)
+reads_call line None skip capacity h s is =
+    subst (Told line) (sym is) (unsaid line (says_nothing line skip capacity h))

@@ -7,7 +7,7 @@ use crate::word::after_word;
 use controller::call::Call;
 
 // Four outcomes of one rank; a Result of an Option of a request would name them by three types.
-#[derive(Clone, Copy)]
+#[derive(Clone, Copy, PartialEq, Eq, Debug)]
 pub enum Line {
     // Empty, or a comment.
     Skipped,
@@ -49,8 +49,5 @@ pub fn read_line(line: &[u8]) -> Line
     if let Some(capacity) = after_word(line, b"capacity ") {
         return Line::Capacity(capacity);
     }
-    match read_call(line) {
-        Some(call) => Line::Call(call),
-        None => Line::NotUnderstood,
-    }
+    read_call(line).map_or(Line::NotUnderstood, Line::Call)
 }

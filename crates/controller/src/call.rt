@@ -4,7 +4,7 @@ ghost use Rattle.controller.specs.Said.{said, seen};
 
 use std::fmt;
 
-#[derive(Clone, Copy)]
+#[derive(Clone, Copy, PartialEq, Eq, Debug)]
 pub enum Call {
     Fire { rule: u16 },
     Reset,
@@ -12,14 +12,14 @@ pub enum Call {
 }
 
 // What a look sees of a machine: its local state, how many events wait, and the one at the place asked for.
-#[derive(Clone, Copy)]
+#[derive(Clone, Copy, PartialEq, Eq, Debug)]
 pub struct Sight {
     pub local: u8,
     pub waiting: u8,
     pub event: Option<u8>,
 }
 
-#[derive(Clone, Copy)]
+#[derive(Clone, Copy, PartialEq, Eq, Debug)]
 pub enum Answer {
     Accepted,
     Reset,

@@ -97,6 +97,7 @@ impl<'a> Controller<'a> {
         ensures state { state_in self.new ≡ next (system_in self.old) self.old.capacity (state_in self.old) call }
         ensures keeps { Keeps self.old self.new }
     {
+        // A match: a call is an enum, whose kinds carry numbers of their own.
         match call {
             Call::Fire { rule } => {
                 self.fire(rule)?;

@@ -63,20 +63,16 @@ impl Machines {
     fn local(&self, machine: u8) -> u8
         ensures { result ≡ local_at self.now machine }
     {
-        match self.held().get(machine as usize) {
-            Some(entry) => entry.local(),
-            None => 0,
-        }
+        self.held().get(machine as usize).map_or(0, Entry::local)
     }
 
     // The events that wait for a machine; where there is no such machine, none.
     fn events(&self, machine: u8) -> &[u8]
         ensures { result.now ≡ queue_at self.now machine }
     {
-        match self.held().get(machine as usize) {
-            Some(entry) => entry.events(),
-            None => &[],
-        }
+        self.held()
+            .get(machine as usize)
+            .map_or(&[], Entry::events)
     }
 
     // What a look sees of a machine and a place of its queue, if there is such a machine.
@@ -99,6 +95,7 @@ impl Machines {
         if self.local(rule.machine) != rule.from {
             return Err(Refusal::OtherState);
         }
+        // A match: an action is an enum, whose kinds carry numbers of their own.
         match rule.action {
             Action::Local => Ok(()),
             Action::Take { event } => may_take(self.events(rule.machine), event),
@@ -116,6 +113,7 @@ impl Machines {
     fn follow(&mut self, rule: Rule)
         ensures { self.new ≡ moved rule (left rule.action (queue_at self.old rule.machine)) self.old }
     {
+        // By its number: `get_mut` says nothing of what its slice ends as, so with it the proof does not close.
         if rule.machine < self.count {
             self.entries[rule.machine as usize].follow(rule);
         }
@@ -126,6 +124,7 @@ impl Machines {
         requires { length (queue_at self.old target) < 32 }
         ensures { self.new ≡ sent event target self.old }
     {
+        // By its number, as in `follow`.
         if target < self.count {
             self.entries[target as usize].receive(event);
         }

@@ -3,7 +3,7 @@
 
 #[cfg(test)]
 mod tests {
-    use controller::call::{Answer, Call};
+    use controller::call::{Answer, Call, Sight};
     use controller::run::rehearse;
     use list_abstraction::ListAbstraction;
     use model::fault::Fault;
@@ -22,21 +22,16 @@ mod tests {
         capacity: u8,
         calls: &[Call],
         answers: &mut [Result<Answer, Fault>],
-    ) -> (usize, u8, u32) {
-        match rehearse(TABLE, SET, &ListAbstraction, capacity, calls, answers) {
-            Ok(count) => (count, 0, 0),
-            Err(fault) => (0, u8::from(fault.number), fault.a),
-        }
+    ) -> Result<usize, (u8, u32)> {
+        rehearse(TABLE, SET, &ListAbstraction, capacity, calls, answers).map_err(|fault| (
+            u8::from(fault.number),
+            fault.a,
+        ))
     }
 
-    // An answer as a number: 0 for accepted, 100 for reset, 200 and the number waiting for a sight, else the refusal.
-    fn number(answer: Result<Answer, Fault>) -> u16 {
-        match answer {
-            Ok(Answer::Accepted) => 0,
-            Ok(Answer::Reset) => 100,
-            Ok(Answer::Seen(sight)) => 200 + u16::from(sight.waiting),
-            Err(fault) => u16::from(u8::from(fault.number)),
-        }
+    // An answer, or the number of the refusal.
+    fn numbered(answer: Result<Answer, Fault>) -> Result<Answer, u8> {
+        answer.map_err(|fault| u8::from(fault.number))
     }
 
     #[test]
@@ -49,15 +44,17 @@ mod tests {
             Call::Fire { rule: 2 },
         ];
         let mut answers = [Ok(Answer::Reset); 5];
-        assert_eq!(rt; rehearsed(1, &calls, &mut answers), (5, 0, 0));
-        let numbers = [
-            number(answers[0]),
-            number(answers[1]),
-            number(answers[2]),
-            number(answers[3]),
-            number(answers[4]),
-        ];
-        assert_eq!(rt; numbers, [0, 17, 0, 15, 13]);
+        assert_eq!(rt; rehearsed(1, &calls, &mut answers), Ok(5));
+        assert_eq!(rt;
+            answers.map(numbered),
+            [
+                Ok(Answer::Accepted),
+                Err(17),
+                Ok(Answer::Accepted),
+                Err(15),
+                Err(13)
+            ]
+        );
     }
 
     #[test]
@@ -80,31 +77,46 @@ mod tests {
             },
         ];
         let mut answers = [Ok(Answer::Accepted); 7];
-        assert_eq!(rt; rehearsed(2, &calls, &mut answers), (6, 0, 0));
-        let numbers = [
-            number(answers[2]),
-            number(answers[3]),
-            number(answers[4]),
-            number(answers[5]),
-            number(answers[6]),
-        ];
-        assert_eq!(rt; numbers, [202, 18, 100, 200, 0]);
+        assert_eq!(rt; rehearsed(2, &calls, &mut answers), Ok(6));
+        let full = Sight {
+            local: 0,
+            waiting: 2,
+            event: Some(0),
+        };
+        let empty = Sight {
+            local: 0,
+            waiting: 0,
+            event: None,
+        };
+        let accepted = Ok(Answer::Accepted);
+        assert_eq!(rt;
+            answers.map(numbered),
+            [
+                accepted,
+                accepted,
+                Ok(Answer::Seen(full)),
+                Err(18),
+                Ok(Answer::Reset),
+                Ok(Answer::Seen(empty)),
+                accepted
+            ]
+        );
     }
 
     #[test]
     fn fewer_places_than_calls(rt: HostRuntime) {
         let calls = [Call::Fire { rule: 0 }, Call::Reset];
         let mut answers = [Ok(Answer::Reset); 1];
-        assert_eq!(rt; rehearsed(32, &calls, &mut answers), (1, 0, 0));
-        assert_eq!(rt; number(answers[0]), 0);
+        assert_eq!(rt; rehearsed(32, &calls, &mut answers), Ok(1));
+        assert_eq!(rt; numbered(answers[0]), Ok(Answer::Accepted));
     }
 
     #[test]
     fn capacity_out_of_range(rt: HostRuntime) {
         let mut answers = [Ok(Answer::Reset); 1];
-        assert_eq!(rt; rehearsed(0, &[Call::Reset], &mut answers), (0, 12, 0));
-        assert_eq!(rt; rehearsed(33, &[Call::Reset], &mut answers), (0, 12, 33));
-        assert_eq!(rt; number(answers[0]), 100);
+        assert_eq!(rt; rehearsed(0, &[Call::Reset], &mut answers), Err((12, 0)));
+        assert_eq!(rt; rehearsed(33, &[Call::Reset], &mut answers), Err((12, 33)));
+        assert_eq!(rt; numbered(answers[0]), Ok(Answer::Reset));
     }
 
     #[test]
@@ -122,7 +134,7 @@ mod tests {
             Call::Fire { rule: 7 },
         ];
         let mut answers = [Ok(Answer::Reset); 5];
-        assert_eq!(rt; rehearsed(32, &calls, &mut answers), (4, 0, 0));
+        assert_eq!(rt; rehearsed(32, &calls, &mut answers), Ok(4));
         let [Ok(fired), Ok(front), Ok(behind), Err(refused), Ok(unused)] = answers else {
             return Err(Fail::new("not as asked"));
         };

@@ -1,5 +1,5 @@
 // The replies to all lines.
-ghost use Rattle.std.specs.Prelude.{◌≡◌, ◌+◌, ◌^◌, ◌≤◌, min, ◌++◌, length, drop, IfOk, OnOk};
+ghost use Rattle.std.specs.Prelude.{◌≡◌, ◌+◌, min, ◌++◌, drop, IfOk, OnOk};
 ghost use Rattle.std.specs.Option.{option_to_list};
 ghost use Rattle.model.specs.State.{start};
 ghost use Rattle.model.specs.System.{System};
@@ -37,8 +37,9 @@ fn prepare(
 ) -> Result<usize, AllocError>
     ensures replies { IfOk result (λ first. (S : System) → replies.new.items ++ loaded S (min pass.new.capacity 32) (start S) (first + 1) (drop first lines.now) ≡ replies.old.items ++ held S pass.old.capacity 1 lines.now) }
     ensures table { pass.new.table ≡ pass.old.table }
-    ensures first { IfOk result (λ first. first ≤ length lines.now) }
 {
+    // Not one loop with `perform`'s: this one stops at a call, and each changes a thing of its own, a pass or a controller,
+    // of which its contract speaks; a shared one's closure would have to state both.
     for (at, line) in lines.iter().enumerate() {
         if let Line::Call(_) = line {
             return Ok(at);
@@ -48,18 +49,19 @@ fn prepare(
     Ok(lines.len())
 }
 
-// Replies to the lines from the first call on, which are numbered from `first` on.
+// Replies to the lines from the first call on.
 fn perform(
     controller: &mut Controller<'_>,
     lines: &[Line],
-    first: u64,
+    first: usize,
     replies: &mut Vec<Reply>,
 ) -> Result<(), AllocError>
-    requires { first + length lines.now ≤ 2 ^ 64 }
-    ensures { OnOk result (replies.new.items ≡ replies.old.items ++ loaded (system_in controller.old) controller.old.capacity (state_in controller.old) first lines.now) }
+    ensures { OnOk result (replies.new.items ≡ replies.old.items ++ loaded (system_in controller.old) controller.old.capacity (state_in controller.old) (first + 1) (drop first lines.now)) }
 {
-    for (at, line) in lines.iter().enumerate() {
-        add(replies, make(controller, first + at as u64, *line))?;
+    // `min`: a slice does not begin past the end.
+    let rest = &lines[first.min(lines.len())..];
+    for (at, line) in rest.iter().enumerate() {
+        add(replies, make(controller, (first + at) as u64 + 1, *line))?;
     }
     Ok(())
 }
@@ -76,12 +78,7 @@ pub fn reply_to_lines(
     let mut replies = Vec::new(heap);
     let first = prepare(&mut pass, lines, &mut replies)?;
     let mut controller = Controller::load(pass);
-    perform(
-        &mut controller,
-        &lines[first..],
-        first as u64 + 1,
-        &mut replies,
-    )?;
+    perform(&mut controller, lines, first, &mut replies)?;
     Ok(replies)
 }
 
@@ -102,6 +99,7 @@ pub fn rehearse_files(
 ) -> Result<Result<Vec<Reply>, Fault>, AllocError>
     ensures { IfOk result (FromFiles table.now set.now text.now (claim_under table.now set.now (named set.now))) }
 {
+    // Two errors of two kinds: a fault is a verdict, of which the contract speaks; of a want of memory it says nothing.
     match check_files(table, set) {
         Ok(pass) => Ok(Ok(reply_to_text(heap, pass, text)?)),
         Err(fault) => Ok(Err(fault)),

@@ -6,7 +6,7 @@ use controller::call::Answer;
 use model::fault::Fault;
 use std::fmt;
 
-#[derive(Clone, Copy)]
+#[derive(Clone, Copy, PartialEq, Eq, Debug)]
 pub enum Reply {
     // The capacity that was set, or why it was not.
     Capacity(Result<u8, Fault>),

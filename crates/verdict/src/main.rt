@@ -36,11 +36,9 @@ mod tests {
     static SECOND: &[u8; 34] =
         b"\x01\x00\x00\x00\x00\x00\x02\x00\x01\x00\x01\x00\x10\x00\x00\x00\x00\x00\x00\x00\x00\x00\x00\x00\x00\x00\x01\x00\x00\x00\x00\x00\x00\x00";
 
-    fn numbers(table: &[u8], set: &[u8]) -> (u8, u32, u16, u64) {
-        match check_files(table, set) {
-            Ok(_) => (0, 0, 0, 0),
-            Err(fault) => values(fault),
-        }
+    // The verdict, with the four values of a refusal.
+    fn verdict(table: &[u8], set: &[u8]) -> Result<(), (u8, u32, u16, u64)> {
+        check_files(table, set).map(|_| ()).map_err(values)
     }
 
     fn values(fault: Fault) -> (u8, u32, u16, u64) {
@@ -49,14 +47,14 @@ mod tests {
 
     #[test]
     fn a_record_missing(rt: HostRuntime) {
-        assert_eq!(rt; numbers(TABLE, BOTH), (0, 0, 0, 0));
-        assert_eq!(rt; numbers(TABLE, FIRST), (11, 0, 0, 0));
-        assert_eq!(rt; numbers(TABLE, SECOND), (8, 0, 0, 0));
+        assert_eq!(rt; verdict(TABLE, BOTH), Ok(()));
+        assert_eq!(rt; verdict(TABLE, FIRST), Err((11, 0, 0, 0)));
+        assert_eq!(rt; verdict(TABLE, SECOND), Err((8, 0, 0, 0)));
     }
 
     #[test]
     fn a_rule_missing(rt: HostRuntime) {
-        assert_eq!(rt; numbers(NO_TAKE, BOTH), (9, 1, 1, 0));
+        assert_eq!(rt; verdict(NO_TAKE, BOTH), Err((9, 1, 1, 0)));
     }
 
     #[test]

@@ -1,6 +1,4 @@
-use Rattle.std.proofs.Common.{◌≡◌, ◌+◌, ◌-◌, List, ◌++◌, length, drop, vec_items, sym, ap, ◌∙◌, subst, arith, length-drop}
-use Rattle.std.proofs.lemmas.List.{take_all}
-use Rattle.calls.specs.declared.line.Line.{Line}
+use Rattle.std.proofs.Common.{◌≡◌, vec_items, sym, ap, ◌∙◌, subst}
 use Rattle.model.specs.System.{System}
 use Rattle.table.specs.Reading.{Reads}
 use Rattle.table.specs.SystemOf.{system_of}
@@ -8,7 +6,6 @@ use Rattle.table.specs.declared.view.Table.{Table}
 use Rattle.controller.specs.Hosted.{hosted}
 use Rattle.controller.specs.Views.{system_in, state_in}
 use Rattle.rehearsal.specs.Laws.{Replied}
-use Rattle.rehearsal.specs.Replies.{loaded}
 use Rattle.rehearsal.proofs.Answering.{replied}
 use Rattle.rehearsal.proofs.Turning.{held_whole}
 use Rattle.rehearsal.proofs.rehearsal.reply_to_lines.Goals as goal
@@ -17,10 +14,7 @@ use Rattle.rehearsal.proofs.rehearsal.reply_to_lines.Goals as goal
 by_system : (c : goal.In_ok-perform) (S : System) → system_in c.load-controller.result ≡ S → Replied S c.args.pass.capacity c.args.lines.now (vec_items c.perform.new.replies)
 by_system c S system =
     let loads = c.load-controller.ensures in
-    let lines = c.args.lines.now in
-    let first = c.in_ok-first.first in
-    let rest = take_all (length lines - first) (drop first lines) (omega (arith, length-drop first lines)) in
-    replied S c.args.pass.capacity c.args.lines.now (vec_items c.perform.new.replies) (held_whole S (system_in c.load-controller.result) c.args.pass.capacity c.prepare.new.pass.capacity c.load-controller.result.capacity (state_in c.load-controller.result) (vec_items c.new-replies.result) (vec_items c.prepare.new.replies) (vec_items c.perform.new.replies) c.args.lines.now c.in_ok-first.first c.new-replies.ensures.items system loads.capacity loads.state c.in_ok-first.ensures.replies (c.in_ok-perform.ensures ∙ ap (λ (l : List Line). vec_items c.prepare.new.replies ++ loaded (system_in c.load-controller.result) c.load-controller.result.capacity (state_in c.load-controller.result) (first + 1) l) rest))
+    replied S c.args.pass.capacity c.args.lines.now (vec_items c.perform.new.replies) (held_whole S (system_in c.load-controller.result) c.args.pass.capacity c.prepare.new.pass.capacity c.load-controller.result.capacity (state_in c.load-controller.result) (vec_items c.new-replies.result) (vec_items c.prepare.new.replies) (vec_items c.perform.new.replies) c.args.lines.now c.in_ok-first.first c.new-replies.ensures.items system loads.capacity loads.state c.in_ok-first.ensures.replies c.in_ok-perform.ensures)
 
 pub returns : goal.returns
 returns c =
