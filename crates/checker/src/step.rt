@@ -69,7 +69,8 @@ impl<A: QueueAbstraction> Judgement<'_, '_, A> {
         self.inside(hints, mover.r, 0, &self.moved(mover.rule, own.code))
     }
 
-    // Removal `c` of a take leads to a record of the set, if it takes the rule's event.
+    // Removal `c` of a take leads to a record of the set, if it takes the rule's event. What it is judged by comes from the
+    // one loop that has it, so no struct holds it.
     fn take_inside(
         &self,
         hints: &mut Hints,
