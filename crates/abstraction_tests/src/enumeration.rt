@@ -1,6 +1,9 @@
 // Each abstraction against all queues of at most five events, over one, two and three events. That many show every
 // removal and every answer of allows here, with up to one layer.
+ghost use Rattle.std.specs.Prelude.{◌<◌};
+
 use abstraction::QueueAbstraction;
+use abstraction::removals::each_removal;
 use blank_abstraction::BlankAbstraction;
 use keep_first::KeepFirst;
 use list_abstraction::ListAbstraction;
@@ -11,36 +14,40 @@ use std::process::Abort;
 // A queue is a number in base 4: the front is the lowest digit, and a digit is an event + 1.
 const QUEUES: usize = 1024;
 
-const LONGEST: usize = 5;
+const LONGEST: u32 = 5;
 // more than the removals of any code here
 const REMOVALS: u64 = 12;
 
 // The code of each queue, by its number, and nothing for what is no queue over the events.
 type Codes = [Option<u64>; QUEUES];
 
+// What stands at place i of a queue: an event + 1, or 0 behind its end.
+fn digit(queue: usize, i: u32) -> usize
+    requires { i < 32 }
+    ensures { result < 4 }
+{
+    (queue >> (2 * i)) % 4
+}
+
 fn is_queue(m: u8, queue: usize) -> bool {
-    let mut rest = queue;
     let mut ended = false;
-    for _ in 0..LONGEST {
-        let digit = rest % 4;
+    for i in 0..LONGEST {
+        let digit = digit(queue, i);
         if digit > usize::from(m) || (ended && digit != 0) {
             return false;
         }
         ended = digit == 0;
-        rest /= 4;
     }
     true
 }
 
 fn mask_of(queue: usize) -> u8 {
     let mut mask = 0;
-    let mut rest = queue;
-    for _ in 0..LONGEST {
-        let digit = rest % 4;
+    for i in 0..LONGEST {
+        let digit = digit(queue, i);
         if digit != 0 {
             mask |= 1 << (digit - 1);
         }
-        rest /= 4;
     }
     mask
 }
@@ -49,15 +56,13 @@ fn list_of(queue: usize) -> u64 {
     let mut list: u64 = 0;
     let mut place: u64 = 1;
     let mut seen = [true, false, false, false];
-    let mut rest = queue;
-    for _ in 0..LONGEST {
-        let digit = rest % 4;
+    for i in 0..LONGEST {
+        let digit = digit(queue, i);
         if !seen[digit] {
             seen[digit] = true;
             list = list.wrapping_add(place.wrapping_mul(digit as u64));
             place = place.wrapping_mul(16);
         }
-        rest /= 4;
     }
     list
 }
@@ -102,12 +107,9 @@ fn allowed(codes: &Codes, c: u64, front: Front, mask: u8) -> bool {
 }
 
 fn removes(codes: &Codes, c: u64, e: u8, d: u64) -> bool {
-    for (queue, code) in codes.iter().enumerate() {
-        if *code == Some(c) && queue % 4 == usize::from(e) + 1 && codes[queue / 4] == Some(d) {
-            return true;
-        }
-    }
-    false
+    codes.iter().enumerate().any(|(queue, code)| {
+        *code == Some(c) && begins(Front::Event(e), queue) && codes[queue / 4] == Some(d)
+    })
 }
 
 fn check_allows<A: QueueAbstraction>(rt: &impl Abort, a: &A, m: u8, c: u64, codes: &Codes) {
@@ -131,31 +133,34 @@ fn check_allows<A: QueueAbstraction>(rt: &impl Abort, a: &A, m: u8, c: u64, code
 
 // No removal is wrong, and each that some queue shows stands there once.
 fn check_removals<A: QueueAbstraction>(rt: &impl Abort, a: &A, m: u8, c: u64, codes: &Codes) {
-    for k in 0..REMOVALS {
-        if let Some((e, d)) = a.removal(m, c, k) {
-            assert!(rt; removes(codes, c, e, d));
-            for j in 0..k {
-                assert!(rt; a.removal(m, c, j) != Some((e, d)));
-            }
-        }
+    for (k, (e, d)) in each_removal(a, m, c).enumerate() {
+        assert!(rt; removes(codes, c, e, d));
+        assert!(rt;
+            !each_removal(a, m, c)
+                .take(k)
+                .any(|earlier| earlier == (e, d))
+        );
     }
-    // by number, here and in `check_append`: a queue's number is its events
-    for queue in 1..QUEUES {
-        if codes[queue] == Some(c) {
+    let number = each_removal(a, m, c).count() as u64;
+    assert!(rt; number <= REMOVALS);
+    for k in number..REMOVALS + 1 {
+        assert!(rt; a.removal(m, c, k) == None);
+    }
+    for (queue, code) in codes.iter().enumerate().skip(1) {
+        if *code == Some(c) {
             let e = (queue % 4).saturating_sub(1) as u8;
             assert!(rt; codes[queue / 4].is_some_and(|d| abstraction::has_removal(a, m, c, e, d)));
         }
     }
-    assert!(rt; a.removal(m, c, REMOVALS) == None);
 }
 
 fn check_append<A: QueueAbstraction>(rt: &impl Abort, a: &A, m: u8, codes: &Codes) {
     let mut back = 1;
-    for queue in 0..QUEUES / 4 {
+    for (queue, code) in codes.iter().enumerate().take(QUEUES / 4) {
         if queue == back {
             back = back.wrapping_mul(4);
         }
-        if let Some(c) = codes[queue] {
+        if let Some(c) = *code {
             for e in 0..m {
                 let longer = queue.wrapping_add(back.wrapping_mul(usize::from(e) + 1));
                 assert!(rt; longer < QUEUES);
@@ -187,13 +192,8 @@ fn list(rt: HostRuntime) {
     for m in 1..4 {
         let codes = codes_of(m, list_of);
         compare(&rt, &ListAbstraction, m, &codes, 0x1000);
-        compare(
-            &rt,
-            &KeepFirst::over(ListAbstraction),
-            m,
-            &kept(&codes),
-            0x4000,
-        );
+        let one = KeepFirst::over(ListAbstraction);
+        compare(&rt, &one, m, &kept(&codes), 0x4000);
     }
 }
 
@@ -202,13 +202,8 @@ fn set(rt: HostRuntime) {
     for m in 1..4 {
         let codes = codes_of(m, |queue| u64::from(mask_of(queue)));
         compare(&rt, &SetAbstraction, m, &codes, 0x200);
-        compare(
-            &rt,
-            &KeepFirst::over(SetAbstraction),
-            m,
-            &kept(&codes),
-            0x400,
-        );
+        let one = KeepFirst::over(SetAbstraction);
+        compare(&rt, &one, m, &kept(&codes), 0x400);
     }
 }
 
@@ -217,13 +212,8 @@ fn blank(rt: HostRuntime) {
     for m in 1..4 {
         let codes = codes_of(m, |_| 0);
         compare(&rt, &BlankAbstraction, m, &codes, 0x10);
-        compare(
-            &rt,
-            &KeepFirst::over(BlankAbstraction),
-            m,
-            &kept(&codes),
-            0x100,
-        );
+        let one = KeepFirst::over(BlankAbstraction);
+        compare(&rt, &one, m, &kept(&codes), 0x100);
     }
 }
 
@@ -232,12 +222,7 @@ fn blank(rt: HostRuntime) {
 fn two_layers(rt: HostRuntime) {
     for m in 1..3 {
         let codes = kept(&kept(&codes_of(m, list_of)));
-        compare(
-            &rt,
-            &KeepFirst::over(KeepFirst::over(ListAbstraction)),
-            m,
-            &codes,
-            0x4000,
-        );
+        let two = KeepFirst::over(KeepFirst::over(ListAbstraction));
+        compare(&rt, &two, m, &codes, 0x4000);
     }
 }
