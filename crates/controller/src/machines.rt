@@ -70,9 +70,7 @@ impl Machines {
     fn events(&self, machine: u8) -> &[u8]
         ensures { result.now ≡ queue_at self.now machine }
     {
-        self.held()
-            .get(machine as usize)
-            .map_or(&[], Entry::events)
+        self.held().get(machine as usize).map_or(&[], Entry::events)
     }
 
     // What a look sees of a machine and a place of its queue, if there is such a machine.

@@ -39,13 +39,13 @@ module _ {S F E : Type 0} {steps : S → Option ℕ → S → Type 0} (p : Run s
 
   whole : p.whole ≡ true → FirstErr n A r
   whole w = let m = MatchBool-at_true _ _ w ran in
-    subst (FirstErr n A) (sym (goes r m.0)) (record { none = λ i l. good i (item (calls (Continue tt)) i (p.at i) (placed i (omega (arith, l, counts.1 w))) (m.1 stays i)); first = tt })
+      subst (FirstErr n A) (sym (goes r m.0)) (record { none = λ i l. good i (item (calls (Continue tt)) i (p.at i) (placed i (omega (arith, l, counts.1 w))) (m.1 stays i)); first = tt })
 
   broken : p.whole ≡ false → FirstErr n A r
   broken w = let m = MatchBool-at_false _ _ w ran in let h = m.4 stays in
-    let c = item_and (calls (Break m.0)) m.1 (p.at m.1) (placed m.1 (omega (arith, m.3))) h.0 in
-    let b = breaks c.0 m.0 c.2 m.2 in
-    subst (FirstErr n A) (sym b.2) (record { none = tt; first = (m.1, omega (arith, m.3, counts.0), subst (A m.1) b.1 (gives m.1 c.0 c.1), λ j l. good j (item_and (calls (Continue tt)) j (p.at j) (placed j (omega (arith, l, m.3))) (h.1 j l))) })
+      let c = item_and (calls (Break m.0)) m.1 (p.at m.1) (placed m.1 (omega (arith, m.3))) h.0 in
+      let b = breaks c.0 m.0 c.2 m.2 in
+      subst (FirstErr n A) (sym b.2) (record { none = tt; first = (m.1, omega (arith, m.3, counts.0), subst (A m.1) b.1 (gives m.1 c.0 c.1), λ j l. good j (item_and (calls (Continue tt)) j (p.at j) (placed j (omega (arith, l, m.3))) (h.1 j l))) })
 
   by_whole : (b : Bool) → p.whole ≡ b → FirstErr n A r
   by_whole true w = whole w
