@@ -55,7 +55,7 @@ pub fn check<'a, A: QueueAbstraction>(
     ensures { Checked table.now set.now (claim_of table.now set.now (A.bits abstraction.now) (A.code abstraction.now) (A.removals abstraction.now)) result }
 {
     let view = Table::read(table)?;
-    // written out here and in `read_set`: a struct with a fact and a reference doesn't come out of a Result
+    // written out here and in `read_set`: a constructor would take these three and save one line
     let table = ReadTable { view };
     let case = Case {
         table,

@@ -64,7 +64,7 @@ impl ReadTable<'_> {
     pub(crate) fn no_take(&self, machine: u8, local: u8, event: u8) -> bool
         ensures { Decides result (NoTake (system_of self.now.view.bytes.now) machine local event) }
     {
-        // rules go by number; `all` over the numbers is no shorter to prove than this loop, which needs one answer
+        // rules go by number; with `all` over the numbers two goals stay open
         for r in 0..self.view.rule_count() {
             if takes(self.rule(r), machine, local, event) {
                 return false;

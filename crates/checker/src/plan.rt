@@ -8,16 +8,20 @@ ghost use Rattle.table.specs.SystemOf.{system_of};
 ghost use Rattle.checker.specs.Plan.{no_link, no_line, cell_of, Chained, Planned};
 
 use crate::parts::{ReadTable, takes};
+use model::mask::MOST_EVENTS;
 use model::pattern::Condition;
 use model::queue::Front;
 use model::rule::{Action, Rule};
-use table::layout::{MOST_PATTERN_LINES, MOST_RULES};
+use table::layout::{MOST_LOCAL_STATES, MOST_PATTERN_LINES, MOST_RULES};
 use table::line::PatternLine;
 
 // The pairs of a machine and a local state, and those with an event.
-const CELLS: usize = 8 * 32;
+// the next power of two above the most machines
+const MACHINES: u8 = 8;
 
-const TAKER_CELLS: usize = 8 * CELLS;
+const CELLS: usize = MACHINES as usize * MOST_LOCAL_STATES as usize;
+
+const TAKER_CELLS: usize = MOST_EVENTS as usize * CELLS;
 
 // A rule, and the next one of the same cell.
 #[derive(Clone, Copy)]
@@ -65,20 +69,21 @@ const NO_LINE: PatternLine = PatternLine {
     },
 };
 
-// Where the rules of a machine from a local state are kept. These two are asked for once, of an entry, and go no further
-// than the call.
+// Where the rules of a machine from a local state are kept. The two go together here, in `has_taker`, `no_take` and
+// `takes`: a struct for them would be made of an entry for each question, and be no plainer.
 fn cell(machine: u8, local: u8) -> usize
     ensures is { result ≡ cell_of machine local }
     ensures small { result < 256 }
 {
-    32 * (machine % 8) as usize + (local % 32) as usize
+    MOST_LOCAL_STATES as usize * (machine % MACHINES) as usize
+        + (local % MOST_LOCAL_STATES) as usize
 }
 
 // Where the taker of an event is kept.
 fn taker_cell(machine: u8, local: u8, event: u8) -> usize
     ensures { result < 2048 }
 {
-    8 * cell(machine, local) + (event % 8) as usize
+    MOST_EVENTS as usize * cell(machine, local) + (event % MOST_EVENTS) as usize
 }
 
 impl Chains {

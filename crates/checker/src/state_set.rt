@@ -20,7 +20,7 @@ const RECORD_COUNT: usize = 10;
 pub(crate) const ENTRY_LENGTH: usize = 9;
 
 // As `Table`, a view that holds nothing but its bytes: the reader of each says what they stand for.
-#[derive(Clone, Copy)]
+#[derive(Clone, Copy, PartialEq, Eq, Debug)]
 pub struct StateSet<'a> {
     bytes: &'a [u8],
 }

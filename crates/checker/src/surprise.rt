@@ -13,8 +13,8 @@ use model::fault::{Fault, Refusal};
 use model::queue::Front;
 
 impl<A: QueueAbstraction> Judgement<'_, '_, A> {
-    // Whether the record lets machine `i` be surprised by event `e`. That there is such a machine is asked here, in
-    // `machine_surprises` and in `machine_inside`: a type for such numbers would be opened at each use.
+    // Whether the record lets machine `i` be surprised by event `e`. That there is such a machine is asked wherever one is
+    // named by number, here and in eight functions more: a type for such numbers would be opened at each use.
     fn lets_surprise(&self, i: u8, e: u8) -> bool
         requires sound { IsSound A.QueueAbstraction self.now }
         requires below { i < machines_n (table_at self.now) }

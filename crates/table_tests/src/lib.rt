@@ -143,8 +143,8 @@ mod tests {
         (12, 0, 14, 0, 2, 12),
     ];
 
-    // The refusal's number and place; 0 and 0 where the table reads.
-    // Numbers, as the tables of this file have them and as callers of the C interface see them.
+    // The refusal's number and place; 0 and 0 where the table reads. A pair, as the rows of the tables of this file have it:
+    // a Result would have to be made of every row.
     fn verdict(bytes: &[u8]) -> (u8, u32) {
         match Table::read(bytes) {
             Ok(_) => (0, 0),

@@ -9,7 +9,7 @@ use std::fmt;
 use table::view::Table;
 
 // A table, to be written with its machines, its rules by number and the conditions of its patterns.
-#[derive(Clone, Copy)]
+#[derive(Clone, Copy, PartialEq, Eq, Debug)]
 pub struct InWords<'a> {
     pub table: Table<'a>,
 }
