@@ -4,13 +4,14 @@ use Rattle.std.proofs.lemmas.Bool.{cases_lt}
 use Rattle.model.specs.declared.fault.Fault.{Fault}
 use Rattle.model.specs.State.{start}
 use Rattle.model.specs.System.{WellFormed}
-use Rattle.model.specs.Order.{each, under, Nothing, FirstFault, Answered, ◌then◌}
-use Rattle.model.proofs.Findings.{nothing_under, not_both, answered_after}
+use Rattle.model.specs.Order.{Order, each, under, Nothing, FirstFault, Answered, ◌then◌}
+use Rattle.model.proofs.Findings.{nothing_under, not_both, answered_first, answered_after, answered_under}
 use Rattle.table.specs.Layout.{machines_n}
 use Rattle.table.specs.Reading.{Reads}
 use Rattle.table.specs.Findings as reading
 use Rattle.table.proofs.Wholesome.{reads_well_formed, some_machines, few_machines, few_events, few_rules, few_lines, line_machine}
 use Rattle.table.proofs.Stable.{stable_eq}
+use Rattle.abstraction.specs.declared.QueueAbstraction as queue_abstraction
 use Rattle.closed_sets.specs.Records.{Claim, Closed, Represented}
 use Rattle.closed_sets.specs.Judging as judging
 use Rattle.closed_sets.specs.Theorems.{Means, SoundAll}
@@ -18,8 +19,12 @@ use Rattle.closed_sets.proofs.Closure.{found_nothing, closed_nothing, closed_hol
 use Rattle.checker.specs.Inner.{Formed}
 use Rattle.checker.specs.Promise.{GoodForm, Passes, Safe}
 use Rattle.checker.specs.Ready.{Ready}
-use Rattle.checker.specs.SetFile.{records_n, record_byte, Before, SetReady}
-use Rattle.checker.specs.Verdict.{in_table, in_header, in_record, HeaderApplies, header_order, Applies, numbers, form_of, form_order, table_order, order}
+use Rattle.checker.specs.SetFile.{claim_of, records_n, record_byte, Before, SetReady}
+use Rattle.checker.specs.Verdict.{Finding, in_table, in_header, in_record, HeaderApplies, header_order, Applies, numbers, form_of, form_order, table_order, order}
+
+-- what a set file claims of a table file, under an abstraction
+abbrev pub claimed : {A : Type 0} → queue_abstraction.Ghosts A → A → List ℕ → List ℕ → Claim
+claimed q p table set = claim_of table set (q.bits p) (q.code p) (q.removals p)
 
 pub reads_ready : (bs : List ℕ) → Reads bs → Ready bs
 reads_ready bs r = record {
@@ -65,6 +70,14 @@ module _ (table set : List ℕ) (T : Claim) where
 
   pub reads_nothing : Reads table → Nothing (Applies table set T) (table_order table)
   reads_nothing r = nothing_under (Applies table set T) (numbers table) in_table (reading.order table) r
+
+  -- what is wrong with the table comes first
+  pub table_fault : (o : Order Finding) (f : Fault) → Answered (reading.Applies table) (reading.numbers table) (reading.order table) (Err f) → FirstFault (Applies table set T) (numbers table) (table_order table then o) f
+  table_fault o f h = answered_first (Applies table set T) (numbers table) (table_order table) o f (answered_under (Applies table set T) (numbers table) in_table (reading.order table) (Err f) h)
+
+  -- what is wrong with the rest comes next, where the table reads
+  pub after_table : (o : Order Finding) (r : Result (Unit {0}) Fault) → Reads table → Answered (Applies table set T) (numbers table) o r → Answered (Applies table set T) (numbers table) (table_order table then o) r
+  after_table o r reads h = answered_after (Applies table set T) (numbers table) (table_order table) o r (reads_nothing reads) h
 
   pub passes_nothing : Passes table set T → Nothing (Applies table set T) (order table set T)
   passes_nothing p = (reads_nothing p.reads, (p.form, ((λ none. none p.closed.begins), nothing_under (Applies table set T) (numbers table) in_record (judging.judged T) (closed_nothing T p.closed))))

@@ -4,9 +4,6 @@ use Rattle.model.specs.Queue.{Bit}
 use Rattle.list_abstraction.proofs.Prefix.{Far, far_start, far_more, far_done, far_next, has_bit, bit_has}
 use Rattle.list_abstraction.proofs.read.Goals as goal
 
-pub loop-rest-init : goal.loop-rest-init
-loop-rest-init c = far_start c.args.m c.args.c (c.if-not-valid.ensures.0 refl)
-
 pub returns-then-digit-eq0 : goal.returns-then-digit-eq0
 returns-then-digit-eq0 c g =
     let v = c.if-not-valid.ensures.0 refl in

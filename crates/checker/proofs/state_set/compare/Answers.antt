@@ -1,9 +1,7 @@
-use Rattle.std.proofs.Common.{◌≡◌, ℕ, ◌+◌, ◌*◌, ◌/◌, ◌^◌, ◌<◌, subst, inl, inr, arith}
-use Rattle.std.proofs.lemmas.Bool.{cases_lt}
-use Rattle.checker.proofs.Ordered.{apart, entry_there, entry_here, before_on, same_on, same_sym, same_bytes}
+use Rattle.std.proofs.Common.{◌+◌, ◌*◌, arith}
+use Rattle.checker.proofs.Ordered.{apart, entry_there, entry_here, before_on, same_sym, same_bytes}
 use Rattle.checker.specs.Held.{entry_of, record_in}
 use Rattle.checker.specs.SetFile.{record_byte, entry_byte, byte_in, byte_of}
-use Rattle.closed_sets.specs.Records.{code_in}
 use Rattle.checker.proofs.state_set.compare.Goals as goal
 
 pub returns-in_default : goal.returns-in_default
@@ -25,25 +23,6 @@ returns-in_default c =
           c.compare_entry.ensures;
       alike = λ j e. same_bytes n bs j r (λ t. (c.type_inv.set t).fits) e;
     }
-
-pub loop-i-preserved : goal.loop-i-preserved
-loop-i-preserved c =
-    let n = c.args.target.now.machines in
-    let bs = c.args.set.now in
-    let k = c.args.k in
-    let r = record_in c.args.target.now in
-    let i = c.loop-i.i in
-    let o = c.start-start.result + 9 * i in
-    let q = c.in-Equal.ensures in (
-      same_on n i (record_byte n bs k) (byte_of r) (entry_byte bs o) (byte_in (entry_of c.entry.result)) c.loop-i-test.true c.loop-i.invariant.0
-          (entry_there n bs k r i o (omega (arith, c.start-start.ensures)))
-          (entry_here n bs k r i (entry_of c.entry.result) c.entry.ensures)
-          q.0,
-      (λ j l. elim (cases_lt j (9 * i)) [
-        | inl lt ↦ c.loop-i.invariant.1 j lt
-        | inr ge ↦ (let e : i ≡ j / 9 = omega arith in subst (λ (z : ℕ). code_in r z < 2 ^ 64) e (subst (λ (z : ℕ × ℕ). z.1 < 2 ^ 64) c.entry.ensures q.1))
-      ]),
-    )
 
 pub returns : goal.returns
 returns c =

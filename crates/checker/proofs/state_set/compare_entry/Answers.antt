@@ -1,5 +1,5 @@
 use Rattle.std.proofs.Common.{◌≡◌, ◌+◌, ◌^◌, ◌<◌, ℕ, nat_cmp, sym, ap, ◌∙◌, arith}
-use Rattle.checker.proofs.Ordered.{swapped, codes_stand, locals_stand}
+use Rattle.checker.proofs.Ordered.{swapped, codes_stand}
 use Rattle.checker.specs.SetFile.{long_at}
 use Rattle.checker.proofs.state_set.compare_entry.Goals as goal
 
@@ -15,9 +15,3 @@ returns-in-Equal c =
     codes_stand bs (λ t. (c.type_inv.set t).fits) o e.local e.code small c.cmp-in-Equal.result
     (sym c.cmp.ensures ∙ c.in-Equal.is)
     (c.cmp-in-Equal.ensures ∙ ap (λ (x : ℕ). nat_cmp x c.swap_bytes-in-Equal.result) there ∙ ap (nat_cmp (swapped (long_at bs (o + 1)))) here)
-
-pub returns-in_default : goal.returns-in_default
-returns-in_default c =
-    let e = c.args.entry in
-    let small : e.code < 2 ^ 64 = omega arith in
-    locals_stand c.args.set.now (λ t. (c.type_inv.set t).fits) c.args.at e.local e.code small c.cmp.result c.in_default.not-Equal c.cmp.ensures

@@ -32,12 +32,6 @@ place-requires c =
     let r = room _ _ s.list s.coded c.args.e c.if-e-m.false (new _ _ _ _ _ s (c.bit.ensures.event (omega (arith, s.coded.valid.few, c.if-e-m.false))) c.if-e-m.false c.if-listed-bit.false) in
     omega (arith, r.0, s.count)
 
-pub overflow_mul-result : goal.overflow_mul-result
-overflow_mul-result c =
-    let s = c.in_ok-listed.ensures in
-    let f = fit _ _ _ _ _ _ _ s (c.bit.ensures.event (omega (arith, s.coded.valid.few, c.if-e-m.false))) c.if-e-m.false c.if-listed-bit.false c.from.ensures c.place.ensures in
-    record { fits = omega arith }
-
 pub overflow_add-result-2 : goal.overflow_add-result-2
 overflow_add-result-2 c =
     let s = c.in_ok-listed.ensures in

@@ -28,9 +28,3 @@ pub returns-clause-steps : goal.returns-clause-steps
 returns-clause-steps g c =
     let i = c.self.inside in
     sym c.self.view_is ∙ more (g.A.QueueAbstraction.removals i.abstraction.now i.m i.c) i.k _ c.in_ok-removal.ensures
-
-pub returns-clause-goes : goal.returns-clause-goes
-returns-clause-goes g c =
-    let i = c.self.inside in
-    let p = ap (λ (x : List (ℕ × ℕ)). length x) (sym c.self.view_is ∙ more (g.A.QueueAbstraction.removals i.abstraction.now i.m i.c) i.k _ c.in_ok-removal.ensures) in
-    record { on = λ _. (tt, tt, omega arith); keeps = tt; rests = λ _. tt }

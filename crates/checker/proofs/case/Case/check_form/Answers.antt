@@ -1,28 +1,17 @@
 use Rattle.std.proofs.lemmas.Result.{err_from_is_err_and}
 use Rattle.std.proofs.Common.{Err}
-use Rattle.model.specs.Order.{under, each}
 use Rattle.model.proofs.Findings.{answered_under, answered_first}
-use Rattle.checker.specs.SetFile.{records_n}
-use Rattle.checker.specs.Verdict.{Applies, numbers, in_header, header_order, form_of}
-use Rattle.checker.proofs.Whole.{head, as_long, form_answered, form_ready}
+use Rattle.checker.proofs.Whole.{form_answered, form_ready}
 use Rattle.checker.specs.Case.{claim}
+use Rattle.checker.specs.Verdict.{Applies, numbers, in_header, header_order}
 use Rattle.checker.proofs.case.Case.check_form.Goals as goal
 
 pub returns-in_err-check_header : goal.returns-in_err-check_header
 returns-in_err-check_header g c =
     let bs = c.args.self.now.table.view.bytes.now in
-    let s = c.args.self.now.set.bytes.now in
-    let T = claim g.A.QueueAbstraction c.args.self.now in
+    let A = Applies bs c.args.self.now.set.bytes.now (claim g.A.QueueAbstraction c.args.self.now) in
     let e = err_from_is_err_and c.from_residual.result c.from_residual.ensures.1 in
-    let b = answered_under (Applies bs s T) (numbers bs) in_header header_order (Err c.in_err-check_header.field-0.0) c.in_err-check_header.ensures in
-    rw (e.1, e.2) (record { form = answered_first (Applies bs s T) (numbers bs) (under in_header header_order) (each (records_n s) form_of) c.in_err-check_header.field-0.0 b; ready = tt })
-
-pub form_records-requires : goal.form_records-requires
-form_records-requires g c =
-    let bs = c.args.self.now.table.view.bytes.now in
-    let s = c.args.self.now.set.bytes.now in
-    let h = c.in_ok-check_header.ensures in
-    record { head = head bs s h; long = as_long bs s h }
+    rw (e.1, e.2) (record { form = answered_first A _ _ _ _ (answered_under A (numbers bs) in_header header_order (Err c.in_err-check_header.field-0.0) c.in_err-check_header.ensures); ready = tt })
 
 pub returns : goal.returns
 returns g c =

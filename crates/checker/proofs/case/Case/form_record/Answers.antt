@@ -1,20 +1,11 @@
-use Rattle.std.proofs.Common.{◌≡◌, ℕ, ◌+◌, ◌-◌, ◌*◌, ◌≤◌, length, sym, refl, ap, ◌∙◌, subst, inl, inr, arith}
+use Rattle.std.proofs.Common.{◌≡◌, ℕ, ◌-◌, ◌*◌, length, sym, refl, ap, ◌∙◌, subst, inl, inr, arith}
 use Rattle.std.proofs.lemmas.Bool.Decides.{not_from_Decides}
-use Rattle.checker.proofs.Ordered.{room}
 use Rattle.checker.proofs.Read.{record_at_lem, record_long}
 use Rattle.checker.specs.Held.{record_in}
 use Rattle.checker.specs.SetFile.{record_at, Before, record_byte}
-use Rattle.table.specs.Bytes.{word_at}
 use Rattle.table.specs.Layout.{machines_n}
 use Rattle.checker.specs.Verdict.{record_parts, record_order}
 use Rattle.checker.proofs.case.Case.form_record.Goals as goal
-
-pub record-held-requires : goal.record-held-requires
-record-held-requires g c =
-    let bs = c.args.self.now.set.bytes.now in
-    let n = machines_n c.args.self.now.table.view.bytes.now in
-    let in-set : 16 + 9 * n * c.args.k + 9 * n ≤ length bs = omega (arith, room (9 * n) c.args.k (word_at bs 10) c.requires.below, c.requires.long) in
-    record { few = omega (arith, c.machines.ensures, c.args.self.now.table.ready.few); long = subst (λ (z : ℕ). 16 + 9 * z * c.args.k + 9 * z ≤ length bs) (sym c.machines.ensures) in-set }
 
 pub is_sound-requires : goal.is_sound-requires
 is_sound-requires g c =
@@ -29,19 +20,6 @@ is_sound-requires g c =
 
 pub returns-then-not-is_sound : goal.returns-then-not-is_sound
 returns-then-not-is_sound g c = record { finding = record_parts c.args.k; numbered = c.fault_at.ensures; first = inl (refl, not_from_Decides _ c.is_sound.ensures c.if-not-is_sound.true) }
-
-pub stands_above-requires : goal.stands_above-requires
-stands_above-requires g c =
-    let bs = c.args.self.now.set.bytes.now in
-    let n = machines_n c.args.self.now.table.view.bytes.now in
-    let m : c.record-held.result.machines ≡ n = c.record-held.ensures.machines ∙ c.machines.ensures in
-    let k = c.args.k in
-    let in-set : 16 + 9 * n * (k - 1) + 9 * n ≤ length bs = omega (arith, room (9 * n) (k - 1) (word_at bs 10) (omega (arith, c.requires.below)), c.requires.long) in
-    record {
-      some = omega arith;
-      long = subst (λ (z : ℕ). 16 + 9 * z * (k - 1) + 9 * z ≤ length bs) (sym m) in-set;
-      is = c.record-held.ensures.is ∙ ap (λ (z : ℕ). record_at z bs k) (sym c.record-held.ensures.machines);
-    }
 
 pub returns-then-not-stands_above : goal.returns-then-not-stands_above
 returns-then-not-stands_above g c =
@@ -58,11 +36,3 @@ returns-then-not-stands_above g c =
             (refl, (omega arith, subst (λ (z : ℕ). Before (9 * z) (record_byte z bs (k - 1)) (record_byte z bs k) → ⊥) m (not_from_Decides _ c.stands_above.ensures c.if-not-stands_above.true))),
           );
     }
-
-pub returns : goal.returns
-returns g c =
-    let bs = c.args.self.now.set.bytes.now in
-    let n = machines_n c.args.self.now.table.view.bytes.now in
-    let m : c.record-held.result.machines ≡ n = c.record-held.ensures.machines ∙ c.machines.ensures in
-    let k = c.args.k in
-    (c.is_sound.ensures.0 c.if-not-is_sound.false, (λ l. subst (λ (z : ℕ). Before (9 * z) (record_byte z bs (k - 1)) (record_byte z bs k)) m (c.stands_above.ensures.0 c.if-not-stands_above.false)))

@@ -1,5 +1,6 @@
 use Rattle.std.proofs.Common.{◌≡◌, ℕ, ◌+◌, ◌-◌, ◌*◌, subst, arith, below_more}
 use Rattle.std.proofs.lemmas.Result.{err_from_is_err_and}
+use Rattle.model.proofs.Findings.{answered_at}
 use Rattle.checker.specs.SetFile.{Before, record_byte}
 use Rattle.table.specs.Layout.{machines_n}
 use Rattle.checker.proofs.case.Case.form_records.Goals as goal
@@ -7,8 +8,7 @@ use Rattle.checker.proofs.case.Case.form_records.Goals as goal
 pub returns-in_err-form_record : goal.returns-in_err-form_record
 returns-in_err-form_record g c =
     let p = err_from_is_err_and c.from_residual.result c.from_residual.ensures.1 in
-    let q = c.in_err-form_record.ensures in
-    rw (p.1, p.2) (record { finding = q.finding; numbered = q.numbered; first = (c.loop-k.k, omega (arith, c.record_count-k-end.ensures), q.first, (λ j l. ((λ no. no (c.loop-k.invariant j l).0), (λ no. no.1 ((c.loop-k.invariant j l).1 no.0))))) })
+    rw (p.1, p.2) (answered_at _ _ _ _ c.loop-k.k _ (omega (arith, c.record_count-k-end.ensures)) c.in_err-form_record.ensures (λ j l. ((λ no. no (c.loop-k.invariant j l).0), (λ no. no.1 ((c.loop-k.invariant j l).1 no.0)))))
 
 pub loop-k-preserved : goal.loop-k-preserved
 loop-k-preserved g c = below_more _ c.loop-k.k c.loop-k.invariant c.in_ok-form_record.ensures

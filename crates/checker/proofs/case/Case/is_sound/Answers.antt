@@ -1,27 +1,13 @@
-use Rattle.std.proofs.Common.{ℕ, ◌<◌, length, get_or, sym, ap, ◌∙◌, subst, arith}
-use Rattle.std.proofs.lemmas.Bool.Decides.{not_from_Decides}
+use Rattle.std.proofs.Common.{ℕ, ◌<◌, length, sym, ap, ◌∙◌, subst, arith}
 use Rattle.model.specs.System.{machines, states_of}
 use Rattle.abstraction.specs.Meaning.{Good}
-use Rattle.checker.proofs.Read.{decides_true, decides_false}
+use Rattle.checker.proofs.Read.{decides_true}
 use Rattle.checker.specs.Held.{record_in}
 use Rattle.closed_sets.specs.Records.{Record, local_in, code_in}
 use Rattle.table.proofs.Parts.{machines_long}
 use Rattle.table.specs.Layout.{events_n}
 use Rattle.table.specs.SystemOf.{system_of}
 use Rattle.checker.proofs.case.Case.is_sound.Goals as goal
-
-pub returns-then-not-entry_sound : goal.returns-then-not-entry_sound
-returns-then-not-entry_sound g c =
-    let q = g.A.QueueAbstraction in
-    let p = c.args.self.now.abstraction.now in
-    let bs = c.args.self.now.table.view.bytes.now in
-    let i = c.loop-i.i in
-    let e = c.entry.ensures ∙ ap (λ (z : Record). get_or z i (0, 0)) c.requires.is in
-    let lt : i < machines (system_of bs) = omega (arith, machines_long bs, c.requires.machines) in
-    decides_false (λ s. not_from_Decides _ c.entry_sound.ensures c.if-not-entry_sound.true (
-      subst (λ (z : ℕ × ℕ). z.0 < states_of (system_of bs) i) (sym e) (s.locals i lt),
-      subst (λ (z : ℕ × ℕ). Good (q.bits p) (q.code p) (events_n bs) z.1) (sym e) (s.good i lt),
-    ))
 
 pub returns : goal.returns
 returns g c =

@@ -4,17 +4,13 @@ use Rattle.model.specs.State.{start}
 use Rattle.model.specs.System.{machines}
 use Rattle.checker.specs.Held.{record_in}
 use Rattle.checker.specs.Inner.{ListedIn}
-use Rattle.checker.specs.SetFile.{SetReady, records_of}
+use Rattle.checker.specs.SetFile.{records_of}
 use Rattle.closed_sets.specs.Records.{Record, codes}
 use Rattle.table.proofs.Parts.{machines_long}
 use Rattle.table.specs.Layout.{machines_n, events_n}
 use Rattle.table.specs.SystemOf.{system_of}
 use Rattle.checker.specs.Case.{claim}
 use Rattle.checker.proofs.case.Judge.has_start.Goals as goal
-
-pub contains-requires : goal.contains-requires
-contains-requires g c =
-    subst (λ (z : ℕ). SetReady z c.args.self.now.case.now.set.bytes.now) (sym (c.uniform-held.ensures.machines ∙ c.machines.ensures)) c.args.self.now.rising
 
 pub returns : goal.returns
 returns g c =

@@ -1,14 +1,13 @@
-use Rattle.std.proofs.Common.{◌≡◌, ℕ, ◌+◌, ◌<◌, length, sym, refl, ap, ◌∙◌, subst, inl, inr, arith}
+use Rattle.std.proofs.Common.{ℕ, ◌+◌, sym, ap, ◌∙◌, subst, inl, inr, arith}
 use Rattle.std.proofs.lemmas.Bool.{cases_eq}
 use Rattle.model.specs.Order.{Nothing}
 use Rattle.model.specs.System.{rule_of}
-use Rattle.checker.proofs.Deciding.{not_from, judged_ok}
+use Rattle.checker.proofs.Deciding.{not_from, judged_ok, rule_in}
 use Rattle.checker.proofs.Walking.{Walked, walk_on}
 use Rattle.checker.specs.Held.{record_in}
 use Rattle.checker.specs.Plan.{cell_of, cell_at, FirstFrom}
 use Rattle.closed_sets.specs.Judging.{Applies, outcomes_of}
-use Rattle.closed_sets.specs.Records.{Record, record_of, local_in}
-use Rattle.table.proofs.Parts.{rules_long}
+use Rattle.closed_sets.specs.Records.{Record, local_in}
 use Rattle.table.specs.SystemOf.{system_of}
 use Rattle.checker.specs.Case.{claim_at, table_at}
 use Rattle.checker.proofs.case.Judgement.machine_inside.Goals as goal
@@ -26,16 +25,12 @@ loop-next-preserved g c =
 
 pub returns : goal.returns
 returns g c e r h m =
-    let p = c.args.self.now.judge.now.case.now.abstraction.now in
     let bs = table_at c.args.self.now in
     let T = claim_at g.A.QueueAbstraction c.args.self.now in
-    let law = g.met.A.QueueAbstraction.meaning p in
     let x = rule_of (system_of bs) r in
     let own = local_in (record_in c.args.self.now.held) c.args.i in
-    let is : own ≡ local_in (record_of T c.args.self.now.k) c.args.i = ap (λ (z : Record). local_in z c.args.i) c.requires.sound.is in
-    let lt : r < length (system_of bs).rules = omega (arith, rules_long bs, h) in
     let P : ℕ → Type 0 = λ j. Nothing (Applies T) (outcomes_of T c.args.self.now.k j) in
     elim (cases_eq x.from own) [
       | inl s ↦ subst (Walked P bs (cell_of c.args.i own)) c.in_default.is c.loop-next.invariant r h (ap (λ (z : ℕ). cell_of z x.from) m ∙ ap (cell_of c.args.i) s)
-      | inr ne ↦ (λ o l a. not_from T law _ c.args.self.now.k c.args.self.now.held c.requires.sound c.args.self.now.judge.now.case.now.table.ready.proper r lt x refl (λ f. ne (sym f ∙ ap (local_in (record_of T c.args.self.now.k)) m ∙ sym is)) o a)
+      | inr ne ↦ (λ o l. not_from (g.met.A.QueueAbstraction.meaning _) c.requires.sound (rule_in c.args.self.now h) (λ f. ne (sym f ∙ ap (λ (z : Record). local_in z x.machine) (sym c.requires.sound.is) ∙ ap (local_in (record_in c.args.self.now.held)) m)) o)
     ]

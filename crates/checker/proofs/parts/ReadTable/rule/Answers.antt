@@ -1,7 +1,6 @@
-use Rattle.std.proofs.Common.{◌≡◌, ℕ, ◌<◌, List, is_some, Some, sym, ap, ◌∙◌, arith}
+use Rattle.std.proofs.Common.{◌≡◌, ℕ, ◌<◌, List, is_some, Some, ap, ◌∙◌, arith}
 use Rattle.std.proofs.lemmas.Option.{slice_get-get_or}
 use Rattle.std.specs.List.{slice_get}
-use Rattle.std.proofs.lemmas.Option.{same_Some}
 use Rattle.model.specs.System.{rule_of}
 use Rattle.table.proofs.Parts.{rules_long}
 use Rattle.table.specs.Layout.{rules_n}
@@ -13,6 +12,3 @@ there bs r h = slice_get-get_or (system_of bs).rules r _ (omega (arith, rules_lo
 
 pub unwrap-requires : goal.unwrap-requires
 unwrap-requires c = ap is_some (c.rule.ensures ∙ there c.args.self.now.view.bytes.now c.args.r c.requires)
-
-pub returns : goal.returns
-returns c = same_Some c.unwrap.result _ (sym c.unwrap.ensures ∙ c.rule.ensures ∙ there c.args.self.now.view.bytes.now c.args.r c.requires)

@@ -9,7 +9,7 @@ pub pattern_line-requires : goal.pattern_line-requires
 pattern_line-requires c = omega (arith, lines_long c.args.table.now.view.bytes.now, c.pattern_line_count-l-end.ensures)
 
 pub bounds-lines-l : goal.bounds-lines-l
-bounds-lines-l c = omega (arith, lines_long c.args.table.now.view.bytes.now, c.pattern_line_count-l-end.ensures, c.loop-l.invariant.0, c.requires)
+bounds-lines-l c = omega (arith, lines_long c.args.table.now.view.bytes.now, c.pattern_line_count-l-end.ensures, c.loop-l.invariant.0)
 
 pub loop-l-preserved : goal.loop-l-preserved
 loop-l-preserved c =
@@ -17,7 +17,7 @@ loop-l-preserved c =
     let ls = c.loop-l.lines in
     let l = c.loop-l.l in
     let x = c.pattern_line.result in
-    let len : l < length ls = omega (arith, lines_long bs, c.pattern_line_count-l-end.ensures, c.loop-l.invariant.0, c.requires) in (
+    let len : l < length ls = omega (arith, lines_long bs, c.pattern_line_count-l-end.ensures, c.loop-l.invariant.0) in (
       length-set ls l x ∙ c.loop-l.invariant.0,
       below_more (λ j. get_or (set ls l x) j no_line ≡ pattern_line_at bs (pattern_offset bs j)) l
           (λ j h. let ne : j ≢ l = omega arith in get_or-set_other ls l j x no_line ne ∙ c.loop-l.invariant.1 j h)
