@@ -38,11 +38,6 @@ parts m c mask s o =
 pub returns-in_err-listed : goal.returns-in_err-listed
 returns-in_err-listed c = c.from_residual.ensures ∙ no_removal list_meaning c.args.m c.args.c c.args.k c.in_err-listed.ensures
 
-pub returns-in_err-e : goal.returns-in_err-e
-returns-in_err-e c =
-    c.from_residual-in_err-e.ensures
-    ∙ nothing _ (λ (e, d) h. let r = list_meaning.removed c.args.m c.args.c c.args.k e d h in omega (arith, r.before, r.event, r.valid.few, c.in_err-e.ensures))
-
 at : (m c count k : ℕ) (p : Parts m c count) → slice_get (list_removals m c) k ≡ slice_get (removals_of (p.first ∷ p.rest)) k
 at m c count k p = ap (λ (xs : List (ℕ × ℕ)). slice_get xs k) (removals_at m c (p.first ∷ p.rest) p.coded)
 
@@ -59,11 +54,6 @@ returns-then-k-from c =
     let l : length p.rest < c.args.k - 1 = omega (arith, c.if-k-from.true, c.from.ensures, p.count_is) in
     sym (at c.args.m c.args.c _ c.args.k p ∙ ap (slice_get (removals_of (p.first ∷ p.rest))) k
     ∙ nth_map_none (λ (R : List ℕ). (p.first, pack R)) (insertions p.first p.rest) (c.args.k - 1) (insertions_end p.first p.rest (c.args.k - 1) l))
-
-pub place-here-requires : goal.place-here-requires
-place-here-requires c =
-    let p = parts _ _ _ c.in_ok-listed.ensures c.in_ok-e.ensures.0 in
-    omega (arith, c.if-k-from.false, c.from.ensures, p.few, c.if-k-eq0.false)
 
 -- what is left where the event was put in at place j
 record Left (m c count j event wide here : ℕ) (p : Parts m c count) : Type 0 where
