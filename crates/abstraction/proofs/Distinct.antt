@@ -1,10 +1,14 @@
 -- Lists of different numbers: a list without a number, an element more, and how many fit below a bound. Assumes nothing.
-use Rattle.std.proofs.Common.{◌≡◌, ℕ, zero, suc, ◌≤◌, Bool, true, false, cond, eqb, ◌⊎◌, List, [], ◌∷◌, ◌++◌, length, sym, refl, ap, ◌∙◌, subst, inl, inr, arith}
-use Rattle.std.specs.List.{AllByRecursion}
-use Rattle.std.proofs.ByRecursion.{All-push}
-use Rattle.std.proofs.lemmas.Bool.{cases_eq, eq-eqb, ne_eqb}
+use Rattle.std.proofs.Common.{◌≡◌, ℕ, ◌<◌, ◌≤◌, Bool, true, false, cond, eqb, ◌⊎◌, List, [], ◌∷◌, ◌++◌, length, sym, refl, ap, ◌∙◌, subst, inl, inr, arith}
+use Rattle.std.specs.List.{AllByRecursion, IsDistinct, list_any}
+use Rattle.std.proofs.lemmas.List.Elements.{All-push, All-from_recursion, recursion_from_All}
+use Rattle.std.proofs.lemmas.Bool.{cases_eq, eq-eqb, ne_eqb, eqb-true, or_cases, true≢false}
+use Rattle.std.proofs.lemmas.Map.Steps.{length-le_from_distinct_below}
 use Rattle.model.specs.Queue.{Over, Waits}
 use Rattle.abstraction.specs.Distinct.{Absent, Apart, Below, without}
+
+pub all_push : {X : Type 0} (P : X → Type 0) (xs : List X) (x : X) → AllByRecursion P xs → P x → AllByRecursion P (xs ++ x ∷ [])
+all_push P xs x h p = recursion_from_All P (xs ++ x ∷ []) (All-push P xs x (All-from_recursion P xs h) p)
 
 pub without_same : (e f : ℕ) (L : List ℕ) → f ≡ e → without e (f ∷ L) ≡ without e L
 without_same e f L p = ap (λ (b : Bool). cond b (without e L) (f ∷ without e L)) (eq-eqb f e p)
@@ -60,25 +64,21 @@ append_waits e f (g ∷ L) (inr p) = inr (append_waits e f L (inr p))
 
 pub apart_push : (L : List ℕ) (e : ℕ) → Apart L → (Waits e L → ⊥) → Apart (L ++ e ∷ [])
 apart_push [] e a n = (tt, tt)
-apart_push (f ∷ L) e a n = (All-push (λ (y : ℕ). y ≡ f → ⊥) L e a.0 (λ p. n (inl p)), apart_push L e a.1 (λ h. n (inr h)))
+apart_push (f ∷ L) e a n = (all_push (λ (y : ℕ). y ≡ f → ⊥) L e a.0 (λ p. n (inl p)), apart_push L e a.1 (λ h. n (inr h)))
 
-without_length : (n : ℕ) (L : List ℕ) → Apart L → length L ≤ suc (length (without n L))
-without_length n [] a = omega arith
-without_length n (f ∷ L) a = elim (cases_eq f n) [
-  | inl p ↦ (let t : without n (f ∷ L) ≡ L = without_same n f L p ∙ without_absent n L (subst (λ (z : ℕ). Absent z L) p a.0) in
-      omega (arith, ap length t))
-  | inr p ↦ omega (arith, ap length (without_other n f L p), without_length n L a.1)
-]
+apart_distinct : (L : List ℕ) → Apart L → IsDistinct eqb L
+unfolding IsDistinct
+apart_distinct [] a = tt
+apart_distinct (e ∷ L) a = (others L a.0, apart_distinct L a.1)
+  where
+    others : (R : List ℕ) → Absent e R → AllByRecursion (λ (y : ℕ). eqb e y ≡ false) R
+    others [] h = tt
+    others (f ∷ R) h = (ne_eqb e f (λ p. h.0 (sym p)), others R h.1)
 
-without_below : (n : ℕ) (L : List ℕ) → Below (suc n) L → Below n (without n L)
-without_below n [] a = tt
-without_below n (f ∷ L) a = elim (cases_eq f n) [
-  | inl p ↦ subst (Below n) (sym (without_same n f L p)) (without_below n L a.1)
-  | inr p ↦ subst (Below n) (sym (without_other n f L p)) (omega (arith, a.0), without_below n L a.1)
-]
+below_each : (n : ℕ) (L : List ℕ) → Below n L → (q : ℕ) → list_any (eqb q) L ≡ true → q < n
+below_each n [] b q h = absurd (true≢false (sym h))
+below_each n (f ∷ L) b q h = elim (or_cases (eqb q f) (list_any (eqb q) L) h) [ inl t ↦ omega (arith, b.0, eqb-true q f t) | inr t ↦ below_each n L b.1 q t ]
 
 -- different numbers below n are at most n
 pub few_below : (n : ℕ) (L : List ℕ) → Below n L → Apart L → length L ≤ n
-few_below zero [] a d = omega arith
-few_below zero (f ∷ L) a d = absurd (omega (arith, a.0))
-few_below (suc n) L a d = omega (arith, without_length n L d, few_below n (without n L) (without_below n L a) (apart_without n L d))
+few_below n L b a = length-le_from_distinct_below L n (apart_distinct L a) (below_each n L b)

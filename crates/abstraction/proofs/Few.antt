@@ -4,7 +4,8 @@ use lib.ListN.{length-map}
 use Rattle.std.specs.List.{slice_get, AllByRecursion}
 use Rattle.abstraction.specs.Meaning.{Meaning}
 use Rattle.abstraction.specs.Distinct.{Apart, Below}
-use Rattle.abstraction.proofs.Nth.{nth_map_back, pair_same}
+use mathlib.Core.Path.{Σ_path}
+use Rattle.abstraction.proofs.Nth.{nth_map_back}
 use Rattle.abstraction.proofs.Distinct.{few_below}
 
 all_from_nth : {X : Type 0} (P : X → Type 0) (xs : List X) → ((k : ℕ) (x : X) → slice_get xs k ≡ Some x → P x) → AllByRecursion P xs
@@ -45,5 +46,5 @@ module _ {w : ℕ} {code : ℕ → List ℕ → ℕ} {removals : ℕ → ℕ →
           let (z, o, f) = nth_map_back packed (removals m c) j y i in
           let l = low k x n in
           let u = low j z o in
-          let s : x ≡ z = pair_same x z (omega arith) (omega arith) in
+          let s : x ≡ z = Σ_path (omega arith) (omega arith) in
           law.once m c k j z (n ∙ ap Some s) o)

@@ -1,8 +1,8 @@
 -- Masks and queues. Assumes nothing.
-use Rattle.std.proofs.Common.{◌≡◌, ℕ, zero, suc, ◌+◌, ◌/◌, ◌%◌, ◌^◌, ◌<◌, ◌≤◌, List, [], ◌∷◌, ap, subst, inl, inr, lt_of_lt_of_le, add-zero, arith, pow_mono}
-use native.Mathlib.Nat.{div-eq_of_lt}
+use Rattle.std.proofs.Common.{◌≡◌, ℕ, zero, suc, ◌+◌, ◌/◌, ◌%◌, ◌^◌, ◌<◌, ◌≤◌, List, [], ◌∷◌, ap, subst, inl, inr, add-zero, arith}
 use Rattle.std.specs.List.{range_with_len}
 use Rattle.std.proofs.lemmas.Nat.{shr_below}
+use Rattle.std.proofs.lemmas.Nat.Bits.{bit_at_above, bit_at-zero}
 use Rattle.std.proofs.lemmas.Bool.{cases_lt}
 use Rattle.model.specs.Queue.{Over, Waits, Bit, Covers}
 use Rattle.model.proofs.Masks.{quotient_zero}
@@ -15,12 +15,7 @@ waits_below m e (f ∷ Q) o (inr h) = waits_below m e Q o.1 h
 
 -- a number below 2 ^ m has its bits below m
 pub bit_below : (m mask e : ℕ) → mask < 2 ^ m → Bit mask e → e < m
-bit_below m mask e h b = elim (cases_lt e m) [ inl l ↦ l | inr l ↦ absurd (none_there l) ]
-  where
-    none_there : m ≤ e → ⊥
-    none_there l =
-        let z : mask / 2 ^ e ≡ 0 = div-eq_of_lt (lt_of_lt_of_le h (pow_mono l)) in
-        omega (arith, b, z)
+bit_below m mask e h b = elim (cases_lt e m) [ inl l ↦ l | inr l ↦ absurd (omega (arith, b, bit_at_above mask m e h l)) ]
 
 -- a number whose bits are below m is below 2 ^ m
 pub below_bits : (n m mask : ℕ) → mask < 2 ^ (m + n) → ((e : ℕ) → Bit mask e → e < m) → mask < 2 ^ m
@@ -45,6 +40,9 @@ pub counting_over : (m a n : ℕ) → a + n ≤ m → Over m (range_with_len a n
 counting_over m a zero h = tt
 counting_over m a (suc n) h = (omega arith, counting_over m (a + 1) n (omega arith))
 
--- nothing is asked by a mask without bits
+-- 0 has no bits, so it asks nothing as a mask
+pub no_bit : (e : ℕ) → Bit 0 e → ⊥
+no_bit e b = omega (arith, b, bit_at-zero e)
+
 pub covers_zero : (Q : List ℕ) → Covers 0 Q
-covers_zero Q e b = absurd (omega (arith, bit_below 0 0 e (omega arith) b))
+covers_zero Q e b = absurd (no_bit e b)

@@ -1,11 +1,11 @@
 -- Runs of bytes in order, and the records that they are. Assumes nothing.
-use Rattle.std.proofs.Common.{◌≡◌, ℕ, zero, suc, ◌+◌, ◌-◌, ◌*◌, ◌/◌, ◌%◌, ◌^◌, ◌<◌, ◌≤◌, Bool, cond, List, length, get_or, sym, refl, ap, ◌∙◌, subst, inl, inr, mul-le-mul_left, mul-suc, arith, Ordering, nat_cmp}
+use Rattle.std.proofs.Common.{◌≡◌, ℕ, zero, suc, ◌+◌, ◌-◌, ◌*◌, ◌/◌, ◌%◌, ◌^◌, ◌<◌, ◌≤◌, Bool, cond, List, length, get_or, sym, refl, ap, ◌∙◌, subst, inl, inr, arith, Ordering, nat_cmp}
 use Rattle.std.specs.Ordering.{MatchOrdering}
 use Rattle.std.specs.declared.cmp.Ordering.TheVariants.{Less, Equal, Greater}
 use Rattle.std.specs.Cmp.{ranks}
 use Rattle.std.specs.Slice.Scan.{digits_from}
 use Rattle.std.proofs.Math.Nat.{div-div-eq-div-mul}
-use Rattle.std.proofs.lemmas.Nat.{pow-add}
+use Rattle.std.proofs.lemmas.Nat.{pow-add, column_fits}
 use Rattle.std.proofs.lemmas.Bool.{cases_lt, cases_eq, ne_eqb}
 use Rattle.std.proofs.lemmas.List.FromFn.{fill_by_all, get_or-map-range_with_len}
 use Rattle.checker.specs.SetFile.{record_byte, entry_byte, byte_of, byte_in, Before, Same, long_at, record_at}
@@ -143,7 +143,7 @@ module _ (n : ℕ) (bs : List ℕ) (k : ℕ) (r : Record) where
 
 -- a record lies within the set
 pub room : (a m c : ℕ) → m < c → a * m + a ≤ a * c
-room a m c h = omega (arith, mul-le-mul_left a h, mul-suc a m)
+room a m c h = column_fits a m a c h (omega arith)
 
 -- a run that is the same stands where the other does
 pub before_right : (z : ℕ) (f g h : ℕ → ℕ) → Before z f g → Same z h g → Before z f h

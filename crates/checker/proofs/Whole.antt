@@ -10,7 +10,6 @@ use Rattle.table.specs.Layout.{machines_n}
 use Rattle.table.specs.Reading.{Reads}
 use Rattle.table.specs.Findings as reading
 use Rattle.table.proofs.Wholesome.{reads_well_formed, some_machines, few_machines, few_events, few_rules, few_lines, line_machine}
-use Rattle.table.proofs.Stable.{stable_eq}
 use Rattle.abstraction.specs.declared.QueueAbstraction as queue_abstraction
 use Rattle.closed_sets.specs.Records.{Claim, Closed, Represented}
 use Rattle.closed_sets.specs.Judging as judging
@@ -50,7 +49,7 @@ module _ (table set : List ℕ) (h : Nothing (HeaderApplies table set) header_or
   head = elim (cases_lt (length set) 16) [ inl lt ↦ absurd (h.0 lt) | inr ge ↦ ge ]
 
   pub as_long : length set ≡ 16 + 9 * machines_n table * records_n set
-  as_long = stable_eq (length set) (16 + 9 * machines_n table * records_n set) h.1.1
+  as_long = grind (arith, h.1.1)
 
 module _ (table set : List ℕ) (T : Claim) where
   pub formed_nothing : Formed (machines_n table) set T → Nothing (Applies table set T) (each (records_n set) form_of)

@@ -1,7 +1,11 @@
 -- Closed records hold what is reached; and the findings decide whether records are closed. Assumes nothing.
-use Rattle.std.proofs.Common.{◌≡◌, ℕ, zero, suc, ◌<◌, ◌⊎◌, List, [], ◌∷◌, length, get_or, sym, refl, ap, ◌∙◌, subst, inl, inr, arith, get_or-set_same}
+use Rattle.std.proofs.Common.{◌≡◌, ℕ, zero, suc, ◌<◌, Bool, ◌&&◌, eqb, Decides, ◌⊎◌, List, [], ◌∷◌, length, get_or, sym, refl, ap, ◌∙◌, subst, inl, inr, arith, get_or-set_same}
 use Rattle.std.proofs.lemmas.List.{get_or-map}
-use Rattle.std.proofs.lemmas.Bool.{cases_eq}
+use lib.Pointwise.{pointwise}
+use mathlib.Core.Path.{Σ_path, fst_path, snd_path}
+use Rattle.std.proofs.lemmas.Bool.{cases_Bool}
+use Rattle.std.proofs.lemmas.Bool.Decides.{Decides-and, Decides-eqb, Decides-like, not_from_Decides}
+use Rattle.std.proofs.lemmas.Slice.Eq.{slice_eq-Decides}
 use Rattle.std.proofs.lemmas.Option.{slice_get_within}
 use Rattle.model.proofs.States.{start_is, step_is}
 use Rattle.model.specs.Bad.{Bad}
@@ -24,20 +28,16 @@ module _ (T : Claim) (p : WellFormed T.system) (c : Closed T) where
 pub closed_holds : ClosedHolds
 closed_holds T p c s r = let b = within T p c s r in (b.1, c.safe s b.0 b.1)
 
-same_pair : (a b : ℕ × ℕ) → (a ≡ b) ⊎ (a ≡ b → ⊥)
-same_pair (a, x) (b, y) = elim (cases_eq a b) [
-  | inl e ↦ elim (cases_eq x y) [ inl f ↦ inl (cc) | inr n ↦ inr (λ h. n (ap (λ (z : ℕ × ℕ). z.1) h)) ]
-  | inr n ↦ inr (λ h. n (ap (λ (z : ℕ × ℕ). z.0) h))
-]
+abbrev same : ℕ × ℕ → ℕ × ℕ → Bool
+same a b = eqb a.0 b.0 && eqb a.1 b.1
+
+same_decides : (a b : ℕ × ℕ) → Decides (same a b) (a ≡ b)
+same_decides a b = Decides-like (same a b) (λ h. Σ_path h.0 h.1) (λ p. (fst_path p, snd_path p)) (Decides-and (eqb a.0 b.0) (eqb a.1 b.1) (Decides-eqb a.0 b.0) (Decides-eqb a.1 b.1))
 
 pub same_record : (r q : Record) → (r ≡ q) ⊎ (r ≡ q → ⊥)
-same_record [] [] = inl refl
-same_record [] (y ∷ q) = inr (λ h. let z : ◌≡◌ {A = ℕ} 0 1 = cc in omega arith)
-same_record (x ∷ r) [] = inr (λ h. let z : ◌≡◌ {A = ℕ} 0 1 = cc in omega arith)
-same_record (x ∷ r) (y ∷ q) = elim (same_pair x y) [
-  | inl e ↦ elim (same_record r q) [ inl f ↦ inl (cc) | inr n ↦ inr (λ h. n (cc)) ]
-  | inr n ↦ inr (λ h. n (cc))
-]
+same_record r q =
+    let d : Decides (pointwise same r q) (r ≡ q) = slice_eq-Decides same_decides r q _ refl in
+    elim (cases_Bool (pointwise same r q)) [ inl t ↦ inl (d.0 t) | inr f ↦ inr (not_from_Decides _ d f) ]
 
 among : (rs : List Record) (q : Record) → ((k : ℕ) × (k < length rs) × (get_or rs k [] ≡ q)) ⊎ (((k : ℕ) × (k < length rs) × (get_or rs k [] ≡ q)) → ⊥)
 among [] q = inr (λ h. omega (arith, h.1))

@@ -21,7 +21,7 @@ queue_put_back s i l k = elim (cases_eq k i) [
 ]
 
 pub never : {A : Type 0} {n : A} → ◌≡◌ {A = Option A} (Some n) None → ⊥
-never e = let z : ◌≡◌ {A = ℕ} 0 1 = cc in omega arith
+never e = cc
 
 -- what a rule that is not blocked has: its machine is where it leads from, the event to take is in front, and there is room
 module _ (cap : ℕ) (s : State) (x : Rule) where

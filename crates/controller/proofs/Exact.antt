@@ -1,7 +1,7 @@
 -- A fire of the reference controller is a step of the system. Assumes nothing.
 use Rattle.std.proofs.Common.{◌≡◌, ℕ, ◌<◌, ◌≤◌, length, drop, Some, None, Option, Result, sym, refl, ap, ◌∙◌, subst, inl, inr, arith}
 use Rattle.std.specs.List.{slice_get}
-use Rattle.std.proofs.lemmas.Option.{slice_get-get_or, slice_get_past}
+use Rattle.std.proofs.lemmas.Option.{slice_get_within, get_or_from_slice_get}
 use Rattle.std.proofs.lemmas.Bool.{cases_lt, eq-eqb, lt-ltb, le-ltb}
 use Rattle.model.specs.declared.fault.Fault.{Fault}
 use Rattle.model.specs.declared.fault.Refusal.{Refusal}
@@ -41,14 +41,11 @@ module _ (S : System) (cap : ℕ) (s : State) (r : ℕ) where
   refusal_beyond : length S.rules ≤ r → refusal S cap s r ≡ Some NoRule
   refusal_beyond h = simp (le-ltb r (length S.rules) h)
 
-  below_named : (x : Rule) → slice_get S.rules r ≡ Some x → r < length S.rules
-  below_named x e = elim (cases_lt r (length S.rules)) [ inl lt ↦ lt | inr ge ↦ absurd (never (sym e ∙ slice_get_past S.rules r ge)) ]
-
   pub rule_named : (x : Rule) → slice_get S.rules r ≡ Some x → rule_of S r ≡ x
-  rule_named x e = let there = slice_get-get_or S.rules r (record { machine = 0; from = 0; to = 0; action = Local }) (below_named x e) in cc
+  rule_named x e = get_or_from_slice_get S.rules r x _ e
 
   pub refusal_named : (x : Rule) → slice_get S.rules r ≡ Some x → refusal S cap s r ≡ blocked cap s x
-  refusal_named x e = refusal_there (below_named x e) ∙ ap (blocked cap s) (rule_named x e)
+  refusal_named x e = refusal_there (slice_get_within S.rules r x e) ∙ ap (blocked cap s) (rule_named x e)
 
   -- from what is answered of a rule to what is answered of its number
   module _ (x : Rule) (e : slice_get S.rules r ≡ Some x) where

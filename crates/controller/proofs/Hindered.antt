@@ -13,28 +13,6 @@ use Rattle.model.specs.State.{State, local_at, queue_at}
 use Rattle.controller.specs.Hindrances.{no_rule, other_state, queue_empty, other_front, queue_full, Applies, numbers, order}
 use Rattle.controller.specs.Reference.{taking, acting, blocked, refusal, fired}
 
--- actions of two kinds
-local_take : (a : Action) (e : ℕ) → a ≡ Local → a ≡ Take e → ⊥
-local_take a e p q = let z : ◌≡◌ {A = ℕ} 0 1 = cc in omega arith
-
-local_send : (a : Action) (e d : ℕ) → a ≡ Local → a ≡ Send e d → ⊥
-local_send a e d p q = let z : ◌≡◌ {A = ℕ} 0 1 = cc in omega arith
-
-take_send : (a : Action) (f e d : ℕ) → a ≡ Take f → a ≡ Send e d → ⊥
-take_send a f e d p q = let z : ◌≡◌ {A = ℕ} 0 1 = cc in omega arith
-
-empty_front : (q : List ℕ) (f : ℕ) (Q : List ℕ) → q ≡ [] → q ≡ f ∷ Q → ⊥
-empty_front q f Q p r = let z : ◌≡◌ {A = ℕ} 0 1 = cc in omega arith
-
-same_event : (a : Action) (e f : ℕ) → a ≡ Take e → a ≡ Take f → e ≡ f
-same_event a e f p q = cc
-
-same_front : (q : List ℕ) (e f : ℕ) (Q R : List ℕ) → q ≡ e ∷ Q → q ≡ f ∷ R → e ≡ f
-same_front q e f Q R p r = cc
-
-same_target : (a : Action) (e d f b : ℕ) → a ≡ Send e d → a ≡ Send f b → d ≡ b
-same_target a e d f b p q = cc
-
 module _ (S : System) (cap : ℕ) (s : State) (r : ℕ) where
   abbrev Says : Option Refusal → Type 0
   Says o = Answered (Applies S cap s r) (numbers r) order (fired r o)
@@ -60,23 +38,23 @@ module _ (S : System) (cap : ℕ) (s : State) (r : ℕ) where
       here ne = ne l
 
       local_free : x.action ≡ Local → Says None
-      local_free is = (there, (here, ((λ (e, t, z). local_take x.action e is t), ((λ (e, f, Q, t, z, ne). local_take x.action e is t), (λ (e, d, t, z). local_send x.action e d is t)))))
+      local_free is = (there, (here, ((λ (e, t, z). cc), ((λ (e, f, Q, t, z, ne). cc), (λ (e, d, t, z). cc)))))
 
       take_by : (e : ℕ) (q : List ℕ) → x.action ≡ Take e → front ≡ q → Says (taking e q)
       take_by e [] is z = record { finding = queue_empty; numbered = refl; first = inr (there, inr (here, inl (refl, (e, is, z)))) }
       take_by e (f ∷ Q) is z = elim (cases_eq f e) [
         | inl same ↦ subst (λ (b : Bool). Says (cond b None (Some OtherFront))) (sym (eq-eqb f e same))
-            (there, (here, ((λ (k, t, y). empty_front front f Q y z), ((λ (k, g, R, t, y, ne). ne (same_front front g f R Q y z ∙ same ∙ same_event x.action e k is t)), (λ (k, d, t, y). take_send x.action e k d is t)))))
+            (there, (here, ((λ (k, t, y). cc), ((λ (k, g, R, t, y, ne). let a : g ≡ f = cc in let b : e ≡ k = cc in ne (a ∙ same ∙ b)), (λ (k, d, t, y). cc)))))
         | inr ne ↦ subst (λ (b : Bool). Says (cond b None (Some OtherFront))) (sym (ne_eqb f e ne))
-            (record { finding = other_front; numbered = refl; first = inr (there, inr (here, inr ((λ (k, t, y). empty_front front f Q y z), inl (refl, (e, f, Q, is, z, ne))))) })
+            (record { finding = other_front; numbered = refl; first = inr (there, inr (here, inr ((λ (k, t, y). cc), inl (refl, (e, f, Q, is, z, ne))))) })
       ]
 
       send_by : (e d : ℕ) → x.action ≡ Send e d → Says (cond (ltb (length (queue_at s d)) cap) None (Some QueueFull))
       send_by e d is =
-          let no_take : (k : ℕ) → x.action ≡ Take k → ⊥ = λ k t. take_send x.action k e d t is in
+          let no_take : (k : ℕ) → x.action ≡ Take k → ⊥ = λ k t. cc in
           elim (cases_lt (length (queue_at s d)) cap) [
             | inl lt ↦ subst (λ (b : Bool). Says (cond b None (Some QueueFull))) (sym (lt-ltb (length (queue_at s d)) cap lt))
-                (there, (here, ((λ (k, t, y). no_take k t), ((λ (k, g, R, t, y, ne). no_take k t), (λ (k, b, t, y). let same : d ≡ b = same_target x.action e d k b is t in omega (arith, y, ap (λ (i : ℕ). length (queue_at s i)) same))))))
+                (there, (here, ((λ (k, t, y). no_take k t), ((λ (k, g, R, t, y, ne). no_take k t), (λ (k, b, t, y). let same : d ≡ b = cc in omega (arith, y, ap (λ (i : ℕ). length (queue_at s i)) same))))))
             | inr ge ↦ subst (λ (b : Bool). Says (cond b None (Some QueueFull))) (sym (le-ltb (length (queue_at s d)) cap ge))
                 (record { finding = queue_full; numbered = refl; first = inr (there, inr (here, inr ((λ (k, t, y). no_take k t), inr ((λ (k, g, R, t, y, ne). no_take k t), (refl, (e, d, is, ge)))))) })
           ]

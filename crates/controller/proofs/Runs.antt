@@ -2,7 +2,8 @@
 use Rattle.std.proofs.Common.{◌≡◌, ℕ, suc, ◌+◌, ◌<◌, Bool, cond, List, [], ◌∷◌, ◌++◌, length, get_or, take, drop, set, Some, None, Ok, Err, Option, Result, sym, refl, ap, ◌∙◌, subst, inl, inr, append_assoc, arith, length-take-le}
 use lib.Seq.{take-append_seam}
 use Rattle.std.specs.List.{AllByRecursion}
-use Rattle.std.proofs.lemmas.List.{take_more, drop_more}
+use Rattle.std.proofs.lemmas.List.{take_more, drop_more, set_at}
+use Rattle.std.proofs.lemmas.List.Elements.{All-weaker, All-from_recursion, recursion_from_All}
 use Rattle.std.proofs.lemmas.Bool.{cases_lt, lt-ltb, le-ltb}
 use Rattle.model.specs.declared.fault.Fault.{Fault}
 use Rattle.model.specs.declared.fault.Refusal.{Refusal}
@@ -41,12 +42,10 @@ module _ (S : System) (cap : ℕ) where
   pub runs_reach : (cs : List Call) → RunReaches S cap cs
   runs_reach cs = reach_states cs (start S) begin
 
-  not_bad : (GoesWrong S → ⊥) → (ts : List State) → AllByRecursion (Reaches S) ts → AllByRecursion (λ (s : State). Bad S s → ⊥) ts
-  not_bad never [] h = tt
-  not_bad never (t ∷ ts) h = ((λ bad. never (t, h.0, bad)), not_bad never ts h.1)
-
   pub run_safe : (GoesWrong S → ⊥) → (cs : List Call) → RunSafe S cap cs
-  run_safe never cs = not_bad never (states S cap (start S) cs) (runs_reach cs)
+  run_safe never cs =
+      let ts = states S cap (start S) cs in
+      recursion_from_All (λ (s : State). Bad S s → ⊥) ts (All-weaker (Reaches S) (λ (s : State). Bad S s → ⊥) (λ s r bad. never (s, r, bad)) ts (All-from_recursion (Reaches S) ts (runs_reach cs)))
 
   -- one call more
   after_push : (cs : List Call) (s : State) (c : Call) → after S cap s (cs ++ (c ∷ [])) ≡ next S cap (after S cap s cs) c
@@ -89,10 +88,6 @@ module _ (S : System) (cap : ℕ) where
 pub runs_safe : (S : System) → (GoesWrong S → ⊥) → RunsSafe S
 runs_safe S never cap cs low high = run_safe S cap never cs
 
-set_here : (A : List (Result Answer Fault)) (e a : Result Answer Fault) (R : List (Result Answer Fault)) → set (A ++ (e ∷ R)) (length A) a ≡ A ++ (a ∷ R)
-set_here [] e a R = refl
-set_here (x ∷ A) e a R = ap (λ (r : List (Result Answer Fault)). x ∷ r) (set_here A e a R)
-
 -- a run, one call on: from controllers that keep system S and capacity cap
 module _ (S S1 : System) (cap cap1 : ℕ) (s s1 : State) (cs : List Call) (E out : List (Result Answer Fault)) (i : ℕ) (d : Call)
     (same_system : S1 ≡ S) (ec : cap1 ≡ cap) (hc : i < length cs) (room : i < length E)
@@ -109,8 +104,7 @@ module _ (S S1 : System) (cap cap1 : ℕ) (s s1 : State) (cs : List Call) (E out
       h ∙ ap (λ (x : System). answer x cap1 s1 (get_or cs i d)) same_system ∙ ap (λ (n : ℕ). answer S n s1 (get_or cs i d)) ec ∙ ap (λ (u : State). answer S cap u (get_or cs i d)) hs in
       let long : length A ≡ i = length_answers S cap (take i cs) s ∙ length-take-le i cs (omega arith) in
       ap (λ (o : List (Result Answer Fault)). set o i a) (ho ∙ ap (λ (r : List (Result Answer Fault)). A ++ r) (drop_more E i e room))
-      ∙ ap (λ (n : ℕ). set (A ++ (get_or E i e ∷ drop (i + 1) E)) n a) (sym long)
-      ∙ set_here A (get_or E i e) a (drop (i + 1) E)
+      ∙ set_at A (get_or E i e) (drop (i + 1) E) a i long
       ∙ sym (append_assoc A (a ∷ []) (drop (i + 1) E))
       ∙ ap (λ (r : List (Result Answer Fault)). r ++ drop (i + 1) E) (ap (λ (b : Result Answer Fault). A ++ (b ∷ [])) is ∙ sym (answers_push S cap (take i cs) s (get_or cs i d)) ∙ ap (answers_to S cap s) (sym (take_more cs i d hc)))
 

@@ -8,7 +8,8 @@ use Rattle.model.specs.Queue.{Over, Bit, Covers, Begins}
 use Rattle.abstraction.specs.Meaning.{Valid, Good, Removal, Meaning, Allowed, Appended}
 use Rattle.model.specs.declared.queue.Front.{Front}
 use Rattle.model.specs.declared.queue.Front.TheVariants.{Any, Empty, Event}
-use Rattle.abstraction.proofs.Nth.{nth_cond, nth_map, nth_map_back, nth_before, nth_front, nth_behind, pair_same}
+use Rattle.abstraction.proofs.Nth.{nth_cond, nth_map, nth_map_back, nth_before, nth_front, nth_behind}
+use mathlib.Core.Path.{Σ_path}
 use Rattle.model.proofs.States.{over_back}
 use Rattle.abstraction.proofs.Masks.{covers_zero}
 use Rattle.abstraction.proofs.Calls.{covers_none}
@@ -22,9 +23,6 @@ pub narrow_below : {m : ℕ} (w d : ℕ) → Valid m (keep_bits w) → d < 2 ^ w
 narrow_below w d v h = let l : w ≤ 56 = omega arith in lt_of_lt_of_le h (pow_mono l)
 
 module _ (w : ℕ) (code : ℕ → List ℕ → ℕ) where
-  pub good_none : (m : ℕ) → Valid m (keep_bits w) → Good (keep_bits w) (keep_code code) m 0
-  good_none m v = record { valid = v; queue = []; over = tt; coded = refl }
-
   pub good_up : (m c e b : ℕ) → Valid m (keep_bits w) → e < m → c ≡ 16 * b + e + 1 → Good w code m b → Good (keep_bits w) (keep_code code) m c
   good_up m c e b v l p g = record { valid = v; queue = e ∷ g.queue; over = (l, g.over); coded = omega (arith, g.coded) }
 
@@ -197,7 +195,7 @@ module _ (w : ℕ) (code : ℕ → List ℕ → ℕ) (removals : ℕ → ℕ →
           let s : 16 * y.1 + y.0 + 1 ≡ 16 * z.1 + z.0 + 1 = ap (λ (y : ℕ × ℕ). y.1) (p ∙ sym q) in
           let ly = (law.removed m b k y.0 y.1 n1).event in
           let lz = (law.removed m b j z.0 z.1 n2).event in
-          let t : y ≡ z = pair_same y z (omega arith) (omega arith) in
+          let t : y ≡ z = Σ_path (omega arith) (omega arith) in
           law.once m b k j z (n1 ∙ ap Some t) n2
 
   pub keep_small : (m : ℕ) (Q : List ℕ) → Valid m (keep_bits w) → Over m Q → keep_code code m Q < 2 ^ keep_bits w

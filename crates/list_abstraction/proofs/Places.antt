@@ -5,7 +5,6 @@ use lib.Arith.{mod-mul}
 use lib.Bits.{bit_or}
 use Rattle.std.specs.List.{slice_get}
 use Rattle.std.proofs.lemmas.Nat.{pow_pos, pow-add, or_lt}
-use Rattle.std.proofs.ByRecursion.{All-push}
 use Rattle.std.proofs.lemmas.List.{length_push}
 use Rattle.std.proofs.lemmas.Bool.{cases_eq}
 use Rattle.std.proofs.lemmas.Bool.Decides.{Decides-like}
@@ -15,7 +14,7 @@ use Rattle.abstraction.specs.Meaning.{Allowed, Appended}
 use Rattle.abstraction.proofs.Nth.{nth_map, nth_map_none}
 use Rattle.abstraction.proofs.Bitwise.{bit_or_lem, or_left, or_right, bits_ext}
 use Rattle.abstraction.specs.Distinct.{Below, without}
-use Rattle.abstraction.proofs.Distinct.{without_same, without_other, below_over, absent_not, apart_push, few_below}
+use Rattle.abstraction.proofs.Distinct.{without_same, without_other, below_over, absent_not, apart_push, few_below, all_push}
 use Rattle.list_abstraction.specs.List.{firsts, pack, insertions, list_code}
 use Rattle.list_abstraction.specs.Read.{Coded, Marks}
 use Rattle.list_abstraction.specs.Lists.{firsts_below, firsts_same, pack_same, pack_below, added, firsts_append, absent_has, waits_has}
@@ -102,7 +101,7 @@ module _ (m c : ℕ) (L : List ℕ) (k : Coded m c L) where
   -- a new event has room
   pub room : (e : ℕ) → e < m → (Waits e L → ⊥) → (length L < 8) × (c + (e + 1) * 2 ^ (4 * length L) < 2 ^ 32)
   room e l n =
-      let b = All-push (λ (y : ℕ). y < m) L e k.below l in
+      let b = all_push (λ (y : ℕ). y < m) L e k.below l in
       let s = few_below m (L ++ e ∷ []) b (apart_push L e k.apart n) in
       let t = length_push L e in
       let few = k.valid.few in

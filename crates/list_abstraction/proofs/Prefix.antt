@@ -1,18 +1,17 @@
 -- The front of a code that has been read. Assumes nothing.
-use Rattle.std.proofs.Common.{◌≡◌, ℕ, ◌+◌, ◌*◌, ◌^◌, ◌<◌, ◌≤◌, ◌/◌, ◌%◌, Bool, cond, eqb, List, [], ◌∷◌, ◌++◌, length, sym, refl, ap, ◌∙◌, subst, inl, inr, arith}
+use Rattle.std.proofs.Common.{◌≡◌, ℕ, ◌+◌, ◌*◌, ◌^◌, ◌<◌, ◌≤◌, ◌/◌, ◌%◌, Bool, true, cond, eqb, List, [], ◌∷◌, ◌++◌, length, sym, refl, ap, ◌∙◌, subst, inl, inr, arith}
 use lib.Bits.{bit_or}
 use Rattle.std.specs.List.{AllByRecursion}
 use Rattle.std.proofs.lemmas.Nat.{or_lt, pow_below}
 use Rattle.std.proofs.lemmas.List.{length_push}
-use Rattle.std.proofs.lemmas.Bool.{eqb-true, ne_eqb}
+use Rattle.std.proofs.lemmas.Bool.{eqb-true, ne_eqb, agree_below, agree_below_at}
 use Rattle.std.specs.Int.RustNames.{count_ones}
-use Rattle.std.proofs.ByRecursion.{All-push}
 use Rattle.model.specs.Queue.{Waits, Bit}
 use Rattle.abstraction.specs.Meaning.{Valid, Good}
-use Rattle.abstraction.proofs.Bitwise.{each_below, at_below, bit_or_lem, or_left, or_right, pow_bit, bit_pow, bits_ext}
+use Rattle.abstraction.proofs.Bitwise.{bit_or_lem, or_left, or_right, pow_bit, bit_pow, bits_ext}
 use Rattle.abstraction.specs.Distinct.{Apart, Below}
-use Rattle.abstraction.proofs.Masks.{bit_below}
-use Rattle.abstraction.proofs.Distinct.{waits_append, append_waits, apart_push}
+use Rattle.abstraction.proofs.Masks.{no_bit}
+use Rattle.abstraction.proofs.Distinct.{waits_append, append_waits, apart_push, all_push}
 use Rattle.list_abstraction.specs.List.{pack, list_code}
 use Rattle.list_abstraction.specs.Read.{Marks, Seen}
 use Rattle.list_abstraction.specs.Meaning.{good_coded}
@@ -47,11 +46,6 @@ onto_split m r (e ∷ P) (f ∷ L) few b a p =
     let (R, c, q, s) = onto_split m r P L few b.1 a.1 y in
     (R, c, ap (λ (z : ℕ). z ∷ L) x ∙ ap (λ (X : List ℕ). e ∷ X) q, s)
 
-all_at : (P : ℕ → Type 0) (L : List ℕ) (e : ℕ) → AllByRecursion P L → Waits e L → P e
-all_at P [] e a h = absurd h
-all_at P (f ∷ L) e a (inl p) = subst P (sym p) a.0
-all_at P (f ∷ L) e a (inr h) = all_at P L e a.1 h
-
 all_middle : (P : ℕ → Type 0) (L : List ℕ) (f : ℕ) (R : List ℕ) → AllByRecursion P (L ++ f ∷ R) → P f
 all_middle P [] f R a = a.0
 all_middle P (e ∷ L) f R a = all_middle P L f R a.1
@@ -83,17 +77,17 @@ one_more : (mask e : ℕ) → mask < 2 ^ 8 → e < 8 → (Bit mask e → ⊥) �
 unfolding counts count_ones
 one_more mask e low l n =
     eqb-true (count_ones (bit_or mask (2 ^ e))) (count_ones mask + cond (eqb (mask / 2 ^ e % 2) 1) 0 1)
-    (at_below 8 (counts mask) (at_below 256 (λ (x : ℕ). each_below 8 (counts x)) refl mask low) e l)
+    (agree_below_at (counts mask) (λ _. true) 8 e (agree_below_at (λ (x : ℕ). agree_below (counts x) (λ _. true) 8) (λ _. true) 256 mask refl low) l)
     ∙ ap (λ (b : Bool). count_ones mask + cond b 0 1) (ne_eqb (mask / 2 ^ e % 2) 1 n)
 
 module _ (m c : ℕ) (v : Valid m 32) where
   pub far_start : Far m c c 0
-  far_start = record { front = []; below = tt; apart = tt; read = refl; low = omega arith; marks = λ e. (λ b. absurd (omega (arith, bit_below 0 0 e (omega arith) b)), λ h. absurd h); long = none_counted }
+  far_start = record { front = []; below = tt; apart = tt; read = refl; low = omega arith; marks = λ e. (λ b. absurd (no_bit e b), λ h. absurd h); long = none_counted }
 
   pub far_more : (rest mask e : ℕ) → Far m c (16 * rest + e + 1) mask → e < m → (Bit mask e → ⊥) → Far m c rest (bit_or mask (2 ^ e))
   far_more rest mask e f l n = record {
     front = f.front ++ e ∷ [];
-    below = All-push (λ (y : ℕ). y < m) f.front e f.below l;
+    below = all_push (λ (y : ℕ). y < m) f.front e f.below l;
     apart = apart_push f.front e f.apart (λ h. n ((f.marks e).1 h));
     read = onto_add e rest f.front ∙ f.read;
     low = or_lt 8 mask (2 ^ e) f.low (pow_below e 8 (omega (arith, v.few)));

@@ -166,12 +166,6 @@ insertions_longer e (f ∷ L) (suc k) F h =
     let (R, n, q) = nth_map_back (λ (R : List ℕ). f ∷ R) (insertions e L) k F h in
     ap length (sym q) ∙ ap suc (insertions_longer e L k R n)
 
-tail_same : (e f : ℕ) (L R : List ℕ) → e ∷ L ≡ f ∷ R → L ≡ R
-tail_same e f L R p = cc
-
-head_same : (e f : ℕ) (L R : List ℕ) → e ∷ L ≡ f ∷ R → e ≡ f
-head_same e f L R p = cc
-
 pub insertions_once : (e : ℕ) (L : List ℕ) (k j : ℕ) (F : List ℕ) → Absent e L → slice_get (insertions e L) k ≡ Some F → slice_get (insertions e L) j ≡ Some F → k ≡ j
 insertions_once e [] zero zero F a h i = refl
 insertions_once e [] zero (suc j) F a h i = absurd (none-some F i)
@@ -179,12 +173,13 @@ insertions_once e [] (suc k) j F a h i = absurd (none-some F h)
 insertions_once e (f ∷ L) zero zero F a h i = refl
 insertions_once e (f ∷ L) zero (suc j) F a h i =
     let (R, n, q) = nth_map_back (λ (R : List ℕ). f ∷ R) (insertions e L) j F i in
-    absurd (a.0 (head_same f e R (f ∷ L) (q ∙ sym (same_Some (e ∷ f ∷ L) F h))))
+    let p : f ∷ R ≡ e ∷ f ∷ L = q ∙ sym (same_Some (e ∷ f ∷ L) F h) in absurd (a.0 cc)
 insertions_once e (f ∷ L) (suc k) zero F a h i =
     let (R, n, q) = nth_map_back (λ (R : List ℕ). f ∷ R) (insertions e L) k F h in
-    absurd (a.0 (head_same f e R (f ∷ L) (q ∙ sym (same_Some (e ∷ f ∷ L) F i))))
+    let p : f ∷ R ≡ e ∷ f ∷ L = q ∙ sym (same_Some (e ∷ f ∷ L) F i) in absurd (a.0 cc)
 insertions_once e (f ∷ L) (suc k) (suc j) F a h i =
     let (R, n, q) = nth_map_back (λ (R : List ℕ). f ∷ R) (insertions e L) k F h in
     let (S, o, r) = nth_map_back (λ (R : List ℕ). f ∷ R) (insertions e L) j F i in
-    let s : R ≡ S = tail_same f f R S (q ∙ sym r) in
+    let p : f ∷ R ≡ f ∷ S = q ∙ sym r in
+    let s : R ≡ S = cc in
     ap suc (insertions_once e L k j S a.1 (n ∙ ap Some s) o)

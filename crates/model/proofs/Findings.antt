@@ -52,11 +52,6 @@ module _ {F G : Type 0} (A : G → Type 0) (numbers : G → Fault) (m : F → G)
   nothing_under (x then y) n = (nothing_under x n.0, nothing_under y n.1)
   nothing_under (each k g) n = λ i l. nothing_under (g i) (n i l)
 
-  pub under_nothing : (o : Order F) → Nothing A (under m o) → Nothing (λ x. A (m x)) o
-  under_nothing (one f) n = n
-  under_nothing (x then y) n = (under_nothing x n.0, under_nothing y n.1)
-  under_nothing (each k g) n = λ i l. under_nothing (g i) (n i l)
-
   pub first_under : (o : Order F) (f : F) → First (λ x. A (m x)) o f → First A (under m o) (m f)
   first_under (one g) f h = (ap m h.0, h.1)
   first_under (x then y) f (inl h) = inl (first_under x f h)

@@ -47,12 +47,9 @@ module _ (S : System) where
 pub reached_is_state : ReachedIsState
 reached_is_state S w s r = reached_is S w s r
 
-same_rest : (e : ℕ) (q Q R : List ℕ) → q ≡ e ∷ Q → q ≡ e ∷ R → Q ≡ R
-same_rest e q Q R a b = cc
-
 acts_one : (a : Action) (x : Rule) (s t u : State) → Acts a x s t → Acts a x s u → t ≡ u
 acts_one Local x s t u h k = h ∙ sym k
-acts_one (Take e) x s t u (Q, q, h) (R, r, k) = h ∙ ap (λ (z : List ℕ). moved x z s) (same_rest e (queue_at s x.machine) Q R q r) ∙ sym k
+acts_one (Take e) x s t u (Q, q, h) (R, r, k) = let same : Q ≡ R = cc in h ∙ ap (λ (z : List ℕ). moved x z s) same ∙ sym k
 acts_one (Send e d) x s t u h k = h ∙ sym k
 
 pub rule_determines : RuleDetermines

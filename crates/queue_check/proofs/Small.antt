@@ -1,7 +1,7 @@
 -- The values of a fault fit their places. Assumes nothing.
 use Rattle.std.proofs.Common.{◌≡◌, ℕ, zero, suc, ◌+◌, ◌-◌, ◌*◌, ◌/◌, ◌%◌, ◌^◌, ◌<◌, ◌≤◌, Bool, true, false, cond, ◌&&◌, eqb, ltb, leb, List, [], ◌∷◌, map, length, sym, refl, subst, inl, inr, Result, Ok, Err, IfErr, arith, length-append}
 use lib.ListN.{length-map}
-use Rattle.std.proofs.lemmas.Bool.{cond_both, leb-true}
+use Rattle.std.proofs.lemmas.Bool.{cond_both, leb-true, and_parts}
 use Rattle.std.proofs.lemmas.List.FromFn.{length-map-range_with_len}
 use Rattle.model.specs.declared.fault.Fault.{Fault}
 use Rattle.model.specs.declared.fault.Refusal.{Refusal}
@@ -51,9 +51,7 @@ cond_few n b xs h = cond_both b xs [] (λ l. length l ≤ n) h (λ _. omega arit
 
 -- the second of three tests
 second : (x y z : Bool) → (x && y && z) ≡ true → y ≡ true
-second x true z e = refl
-second true false z e = e
-second false false z e = e
+second x y z e = (and_parts x y (and_parts (x && y) z e).0).1
 
 blank_few : Few 16 blank
 blank_few m c = cond_few 16 (blank_good m c) (each_event m)

@@ -20,9 +20,6 @@ loaded_one S cap s k NotUnderstood xs = refl
 abbrev pub line_at : List Line → ℕ → Line
 line_at xs i = get_or xs i Skipped
 
-rest_at : (xs : List Line) (i : ℕ) → i < length xs → drop i xs ≡ line_at xs i ∷ drop (i + 1) xs
-rest_at xs i h = drop_more xs i Skipped h
-
 -- one reply more
 joined : (old new : List Reply) (r q : Option Reply) (more : List Reply) → new ≡ old ++ option_to_list r → r ≡ q → new ++ more ≡ old ++ (option_to_list q ++ more)
 joined old new r q more e p =
@@ -38,7 +35,7 @@ loaded_more S S1 cap cap1 s t xs i k next old new all r ek eS ec h inv er et en 
     ∙ ap (λ v. new ++ loaded S cap v (k + 1) (drop (i + 1) xs)) u
     ∙ joined old new r (make_reply S cap s k x) (loaded S cap (make_state S cap s x) (k + 1) (drop (i + 1) xs)) en q
     ∙ ap (λ l. old ++ l) (sym (loaded_one S cap s k x (drop (i + 1) xs)))
-    ∙ ap (λ l. old ++ loaded S cap s k l) (sym (rest_at xs i h))
+    ∙ ap (λ l. old ++ loaded S cap s k l) (sym (drop_more xs i Skipped h))
     ∙ inv
 
 -- the replies before the first call and those from it on

@@ -2,6 +2,7 @@
 use Rattle.std.specs.Prelude.{◌≡◌, ℕ, zero, suc, ◌+◌, ◌/◌, ◌%◌, ◌^◌, ◌<◌, ◌≤◌, Bool, true, false, cond, ◌⊎◌, List, [], ◌∷◌, ◌++◌, Some, ◌≢◌, bit_or, refl}
 use Rattle.std.proofs.Common.{sym, ap, ◌∙◌, subst, inl, inr, lt_of_lt_of_le, arith, pow_mono}
 use Rattle.std.specs.List.{slice_get}
+use mathlib.Core.Path.{fst_path, snd_path}
 use Rattle.std.proofs.lemmas.Bool.{eqb-true, eq-eqb, cases_eq}
 use Rattle.std.proofs.lemmas.Bool.Decides.{nat_tests}
 use Rattle.std.proofs.lemmas.Option.{none-some, same_Some}
@@ -30,21 +31,15 @@ module _ {X : Type 0} (a b : X) (ys : List X) where
   two_rest true k = refl
   two_rest false k = refl
 
-fst_same : (a b c d : ℕ) → ◌≡◌ {A = ℕ × ℕ} (a, b) (c, d) → a ≡ c
-fst_same a b c d p = ap (λ (x : ℕ × ℕ). x.0) p
-
-snd_same : (a b c d : ℕ) → ◌≡◌ {A = ℕ × ℕ} (a, b) (c, d) → b ≡ d
-snd_same a b c d p = ap (λ (x : ℕ × ℕ). x.1) p
-
 -- what stands in the list
 pub from_back : (c e n k x d : ℕ) → slice_get (set_from c e n) k ≡ Some (x, d) → (e ≤ x) × (x < e + n) × Bit c x × ((d ≡ absent c x) ⊎ (d ≡ c))
 from_back c e zero k x d h = absurd (none-some _ h)
 from_back c e (suc n) k x d h =
     elim (two_back (e, absent c e) (e, c) (set_from c (e + 1) n) (present c e) k (x, d) h) [
-      | inl (t, _, p) ↦ (let q = fst_same _ _ _ _ p in
-          (omega arith, omega arith, subst (Bit c) q (eqb-true (c / 2 ^ e % 2) 1 t), inl (sym (snd_same _ _ _ _ p) ∙ ap (absent c) q)))
-      | inr (inl (t, _, p)) ↦ (let q = fst_same _ _ _ _ p in
-          (omega arith, omega arith, subst (Bit c) q (eqb-true (c / 2 ^ e % 2) 1 t), inr (sym (snd_same _ _ _ _ p))))
+      | inl (t, _, p) ↦ (let q = fst_path p in
+          (omega arith, omega arith, subst (Bit c) q (eqb-true (c / 2 ^ e % 2) 1 t), inl (sym (snd_path p) ∙ ap (absent c) q)))
+      | inr (inl (t, _, p)) ↦ (let q = fst_path p in
+          (omega arith, omega arith, subst (Bit c) q (eqb-true (c / 2 ^ e % 2) 1 t), inr (sym (snd_path p))))
       | inr (inr (j, i, _)) ↦ (let r = from_back c (e + 1) n j x d i in (omega (arith, r.0), omega (arith, r.1), r.2, r.3))
     ]
 
@@ -72,17 +67,17 @@ from_once m c few l (suc n) e k j x d le h i =
     elim (at k h) [
       | inl (t, z, p) ↦ (elim (at j i) [
         | inl (_, y, _) ↦ z ∙ sym y
-        | inr (inl (_, _, q)) ↦ absurd (differ t (snd_same _ _ _ _ p ∙ sym (snd_same _ _ _ _ q)))
-        | inr (inr (j', i', _)) ↦ absurd (later j' i' (fst_same _ _ _ _ p))
+        | inr (inl (_, _, q)) ↦ absurd (differ t (snd_path p ∙ sym (snd_path q)))
+        | inr (inr (j', i', _)) ↦ absurd (later j' i' (fst_path p))
       ])
       | inr (inl (t, z, p)) ↦ (elim (at j i) [
-        | inl (_, _, q) ↦ absurd (differ t (snd_same _ _ _ _ q ∙ sym (snd_same _ _ _ _ p)))
+        | inl (_, _, q) ↦ absurd (differ t (snd_path q ∙ sym (snd_path p)))
         | inr (inl (_, y, _)) ↦ z ∙ sym y
-        | inr (inr (j', i', _)) ↦ absurd (later j' i' (fst_same _ _ _ _ p))
+        | inr (inr (j', i', _)) ↦ absurd (later j' i' (fst_path p))
       ])
       | inr (inr (k', h', z)) ↦ (elim (at j i) [
-        | inl (_, _, q) ↦ absurd (later k' h' (fst_same _ _ _ _ q))
-        | inr (inl (_, _, q)) ↦ absurd (later k' h' (fst_same _ _ _ _ q))
+        | inl (_, _, q) ↦ absurd (later k' h' (fst_path q))
+        | inr (inl (_, _, q)) ↦ absurd (later k' h' (fst_path q))
         | inr (inr (j', i', y)) ↦ z ∙ ap (λ (v : ℕ). cond (present c e) (suc (suc v)) v) (from_once m c few l n (e + 1) k' j' x d (omega arith) h' i') ∙ sym y
       ])
     ]

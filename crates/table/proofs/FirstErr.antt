@@ -1,24 +1,12 @@
 -- The first error that `try_for_each` meets over the numbers below n. Assumes nothing.
-use Rattle.std.proofs.Common.{◌≡◌, ℕ, ◌<◌, Bool, true, false, Option, Result, Some, None, Ok, Err, IfSome, IsSomeAnd, IsErrAnd, ControlFlow, option_map, sym, subst, ap, zero-add, refl, arith}
+use Rattle.std.proofs.Common.{◌≡◌, ℕ, ◌<◌, Bool, true, false, Option, Result, Some, Ok, Err, IfSome, IsSomeAnd, ControlFlow, option_map, sym, subst, ◌∙◌, zero-add, refl, arith}
 use Rattle.std.specs.declared.ops.ControlFlow.TheVariants.{Continue, Break}
-use Rattle.std.proofs.lemmas.Option.{same_Some, none-some}
+use Rattle.std.proofs.lemmas.Iterator.Adapters.{option_map_id}
 use Rattle.std.proofs.lemmas.Bool.{MatchBool-at_true, MatchBool-at_false}
 use Rattle.std.specs.Iterator.Runs.{Run, CallKeepsClosure, ItemsCountUp, IsTryForEachRun}
 use denote.Param.Members.{Mut, Called}
 use Rattle.model.specs.declared.fault.Fault.{Fault}
 use Rattle.table.specs.Reading.{FirstErr}
-
-item : (P : ℕ → Type 0) (i : ℕ) (o : Option ℕ) → option_map (λ y. y) o ≡ Some i → IfSome o P → P i
-item P i (Some x) e h = subst P (same_Some x i e) h
-item P i None e h = absurd (none-some i e)
-
-item_and : (P : ℕ → Type 0) (i : ℕ) (o : Option ℕ) → option_map (λ y. y) o ≡ Some i → IsSomeAnd o P → P i
-item_and P i (Some x) e h = subst P (same_Some x i e) h
-item_and P i None e h = absurd h
-
-pub err_is : (r : Result (Unit {0}) Fault) (f : Fault) → IsErrAnd r (λ h. h ≡ f) → r ≡ Err f
-err_is (Err h) f e = ap Err e
-err_is (Ok x) f e = absurd e
 
 -- `branches` and `resumes`: what `?` makes of an answer, and the answer that it makes of an error
 module _ {S F E : Type 0} {steps : S → Option ℕ → S → Type 0} (p : Run steps) (g : Mut F (ℕ × Unit {0}) (Result (Unit {0}) Fault)) (f : F)
@@ -31,21 +19,21 @@ module _ {S F E : Type 0} {steps : S → Option ℕ → S → Type 0} (p : Run s
   good : (i : ℕ) → (v : Result (Unit {0}) Fault) × Called g f (i, tt) v f × branches v (Continue tt) → A i (Ok tt)
   good i c = subst (A i) (goes c.0 c.2) (gives i c.0 c.1)
 
-  placed : (i : ℕ) → i < p.len → option_map (λ y. y) (p.at i) ≡ Some i
-  placed i l = subst (λ j. option_map (λ y. y) (p.at i) ≡ Some j) (zero-add i) (counts.3 i l)
+  placed : (i : ℕ) → i < p.len → p.at i ≡ Some i
+  placed i l = sym (option_map_id (p.at i)) ∙ subst (λ j. option_map (λ y. y) (p.at i) ≡ Some j) (zero-add i) (counts.3 i l)
 
   abbrev calls : ControlFlow E (Unit {0}) → ℕ → Type 0
   calls c i = (v : Result (Unit {0}) Fault) × Called g f (i, tt) v f × branches v c
 
   whole : p.whole ≡ true → FirstErr n A r
   whole w = let m = MatchBool-at_true _ _ w ran in
-      subst (FirstErr n A) (sym (goes r m.0)) (record { none = λ i l. good i (item (calls (Continue tt)) i (p.at i) (placed i (omega (arith, l, counts.1 w))) (m.1 stays i)); first = tt })
+      subst (FirstErr n A) (sym (goes r m.0)) (record { none = λ i l. good i (subst (λ o. IfSome o (calls (Continue tt))) (placed i (omega (arith, l, counts.1 w))) (m.1 stays i)); first = tt })
 
   broken : p.whole ≡ false → FirstErr n A r
   broken w = let m = MatchBool-at_false _ _ w ran in let h = m.4 stays in
-      let c = item_and (calls (Break m.0)) m.1 (p.at m.1) (placed m.1 (omega (arith, m.3))) h.0 in
+      let c = subst (λ o. IsSomeAnd o (calls (Break m.0))) (placed m.1 (omega (arith, m.3))) h.0 in
       let b = breaks c.0 m.0 c.2 m.2 in
-      subst (FirstErr n A) (sym b.2) (record { none = tt; first = (m.1, omega (arith, m.3, counts.0), subst (A m.1) b.1 (gives m.1 c.0 c.1), λ j l. good j (item_and (calls (Continue tt)) j (p.at j) (placed j (omega (arith, l, m.3))) (h.1 j l))) })
+      subst (FirstErr n A) (sym b.2) (record { none = tt; first = (m.1, omega (arith, m.3, counts.0), subst (A m.1) b.1 (gives m.1 c.0 c.1), λ j l. good j (subst (λ o. IsSomeAnd o (calls (Continue tt))) (placed j (omega (arith, l, m.3))) (h.1 j l))) })
 
   by_whole : (b : Bool) → p.whole ≡ b → FirstErr n A r
   by_whole true w = whole w

@@ -10,7 +10,6 @@ use Rattle.table.specs.SystemOf.{number_of, pattern_count, conditions_of, system
 use Rattle.table.specs.Findings.{bounds, states_at, GoodMachine, GoodAction, GoodRuleAt, Follows, GoodConditionAt, GoodPatternAt}
 use Rattle.table.specs.Header.{OutOfBounds}
 use Rattle.table.specs.Reading.{Reads, Numbered}
-use Rattle.table.proofs.Stable.{stable_eq}
 use Rattle.table.proofs.Kept.{all_kept, some_kept, rise_kept}
 use Rattle.table.proofs.Parts.{machines_long, states_at_lem, rules_long, rule_at_lem, patterns_long, pattern_at}
 
@@ -19,7 +18,7 @@ module _ (bs : List ℕ) (reads : Reads bs) where
   head = grind (arith, reads.0.0)
 
   pub as_long : length bs ≡ end_at bs
-  as_long = stable_eq (length bs) (end_at bs) reads.0.1.1
+  as_long = grind (arith, reads.0.1.1)
 
   pub field_in : (i : ℕ) → i < 8 → OutOfBounds bs (bounds bs) i → ⊥
   field_in = reads.0.1.0

@@ -1,7 +1,8 @@
 use Rattle.std.proofs.Common.{rules, ◌≡◌, IsErr, IsErrAnd}
 use Rattle.std.proofs.iter.runs.Sources.{ranges}
 use Rattle.std.specs.Result.{result_from_control_flow}
-use Rattle.table.proofs.FirstErr.{err_is, first_err}
+use Rattle.std.proofs.result.Match.{err_is}
+use Rattle.table.proofs.FirstErr.{first_err}
 use Rattle.table.proofs.reading.check_lines.Goals as goal
 
 pub returns : goal.returns
