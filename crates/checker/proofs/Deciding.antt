@@ -85,10 +85,6 @@ module _ {T : Claim} {n k : ℕ} {h : Held} (j : Judging T n k h) where
   pub entry_code : (i : ℕ) {l c : ℕ} → (l, c) ≡ get_or (record_in h) i (0, 0) → c ≡ code_in (record_of T k) i
   entry_code i q = ap (λ (x : ℕ × ℕ). x.1) (entry_is i q)
 
-  -- what is removed from the code that is held is removed from that of record k
-  pub removals_at : (i : ℕ) {l d m : ℕ} → (l, d) ≡ get_or (record_in h) i (0, 0) → m ≡ T.system.events → T.removals m d ≡ T.removals T.system.events (code_in (record_of T k) i)
-  removals_at i {l} {d} {m} q ev = ap (λ (z : ℕ). T.removals z d) ev ∙ ap (T.removals T.system.events) (entry_code i q)
-
   pub enabled_at : {r : ℕ} {x : Rule} {a : Action} {l d : ℕ} → RuleOf T.system r x → (l, d) ≡ get_or (record_in h) x.machine (0, 0) → l ≡ x.from → x.action ≡ a → Enabled T k r x a
   enabled_at at q from action = record { below = at.below; is = at.is; action = action; from = sym (entry_local _ q) ∙ from }
 

@@ -5,9 +5,6 @@ use Rattle.calls.proofs.Sayings.{asks_nothing}
 use Rattle.calls.proofs.line.read_call.Goals as goal
 use Rattle.std.proofs.lemmas.Bool.Decides.{Decides-eqb}
 
-pub returns-then-eq : goal.returns-then-eq
-returns-then-eq c = (slice_eq-Decides Decides-eqb _ _ _ c.eq.ensures).0 c.if-eq.true ∙ c.as_slice.ensures
-
 pub returns-in_err-machine : goal.returns-in_err-machine
 returns-in_err-machine c =
     rw c.from_residual.ensures (asks_nothing c.args.line.now (λ e. both_ways c.eq.result c.if-eq.false ((slice_eq-Decides Decides-eqb _ _ _ c.eq.ensures).1 (e ∙ sym c.as_slice.ensures))) c.in_default.ensures c.in_err-machine.ensures)

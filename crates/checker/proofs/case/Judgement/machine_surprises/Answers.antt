@@ -6,9 +6,5 @@ use Rattle.checker.proofs.case.Judgement.machine_surprises.Goals as goal
 pub returns-then-lets_surprise : goal.returns-then-lets_surprise
 returns-then-lets_surprise g c = record { finding = surprise c.args.self.now.k c.args.i c.loop-e.e; numbered = c.fault.ensures; first = (c.loop-e.e, omega (arith, c.events-e-end.ensures), (refl, c.lets_surprise.ensures.0 c.if-lets_surprise.true), c.loop-e.invariant) }
 
-pub loop-e-preserved : goal.loop-e-preserved
-loop-e-preserved g c =
-    below_more _ c.loop-e.e c.loop-e.invariant (not_from_Decides _ c.lets_surprise.ensures c.if-lets_surprise.false)
-
 pub returns : goal.returns
 returns g c = λ j h. c.loop-e.invariant j (omega (arith, c.events-e-end.ensures))
