@@ -33,17 +33,10 @@ fn check_kept<'a, A: QueueAbstraction + Copy>(
 ) -> Result<Pass<'a>, Fault>
     ensures { Checked table.now set.now (claim_under table.now set.now (under (word_at set.now 4) (record { width = A.bits below; code = A.code below; removals = A.removals below }))) result }
 {
-    // literals, which show how many layers there are
     match word(set, KEPT) {
         0 => check(table, set, &below),
-        1 => check(table, set, &KeepFirst { below }),
-        _ => check(
-            table,
-            set,
-            &KeepFirst {
-                below: KeepFirst { below },
-            },
-        ),
+        1 => check(table, set, &KeepFirst::over(below)),
+        _ => check(table, set, &KeepFirst::over(KeepFirst::over(below))),
     }
 }
 
