@@ -37,7 +37,7 @@ impl<'a> Pass<'a> {
         ensures table { self.new.table ≡ self.old.table }
         ensures set { MatchResult result (λ _. (1 ≤ capacity) × (capacity ≤ 32) × (self.new.capacity ≡ capacity)) (λ f. (1 ≤ capacity → capacity ≤ 32 → ⊥) × (f ≡ fault_at Capacity capacity) × (self.new.capacity ≡ self.old.capacity)) }
     {
-        if capacity < 1 || capacity > FULL_CAPACITY {
+        if !(1..=FULL_CAPACITY).contains(&capacity) {
             return Err(fault_at(Refusal::Capacity, u32::from(capacity)));
         }
         self.capacity = capacity;

@@ -28,7 +28,7 @@ fn out_of_bounds(value: u16, bounds: (u32, u32)) -> bool
 {
     let value = u32::from(value);
     let (least, greatest) = bounds;
-    value < least || greatest < value
+    !(least..=greatest).contains(&value)
 }
 
 // The lowest field outside its bounds, as a refusal with the field's offset.

@@ -33,7 +33,7 @@ impl Line<'_> {
         ensures { Decides result (GoodMachineAt self.now.bytes.now self.now.offset) }
     {
         let states = self.byte(0);
-        1 <= states && states <= MOST_LOCAL_STATES && self.byte(1) == 0
+        (1..=MOST_LOCAL_STATES).contains(&states) && self.byte(1) == 0
     }
 
     // Whether the machine that the line names exists.
