@@ -11,7 +11,8 @@ use model::queue::Front;
 pub mod limits;
 pub mod removals;
 
-// What callers may rely on, whatever the abstraction: m is the number of events, c a code.
+// What callers may rely on, whatever the abstraction: m is the number of events, c a code. Each call takes the two by
+// themselves, as the definitions of every abstraction do: a pair would be taken apart in each.
 pub trait QueueAbstraction {
     // the width of codes, the code of a queue, and the removals of a code in their order
     ghost bits: { Self → ℕ };

@@ -21,7 +21,7 @@ const REMOVALS: u64 = 12;
 // The code of each queue, by its number, and nothing for what is no queue over the events.
 type Codes = [Option<u64>; QUEUES];
 
-// What stands at place i of a queue: an event + 1, or 0 behind its end.
+// What stands at place i of a queue: an event + 1, or 0 behind its end. A number, since the code of a list is made of it.
 fn digit(queue: usize, i: u32) -> usize
     requires { i < 32 }
     ensures { result < 4 }

@@ -14,7 +14,8 @@ const PATTERNS: u16 = MOST_PATTERN_LINES as u16;
 
 const SLOTS: usize = RULES as usize * OUTCOMES as usize;
 
-// Arrays, since nothing is allocated on the way to a verdict; their slots are numbered, as the cells of a plan.
+// Arrays, since nothing is allocated on the way to a verdict; their slots are numbered, as the cells of a plan. They go
+// beside a judgement and not in it: they change while it stays, which every clause would have to say.
 #[derive(Drop)]
 pub(crate) struct Hints {
     // how far from its record each outcome of each rule last led

@@ -10,7 +10,8 @@ use table::view::Table;
 // The most events that a queue of a controller can hold.
 pub const FULL_CAPACITY: u8 = 32;
 
-// Only a check makes one, and it cannot be copied: whoever holds it may load the table once.
+// Only a check makes one, and it cannot be copied: whoever holds it may load the table once. No invariant bounds the
+// capacity: a struct with one and a reference cannot stand in a `Result`, so loading takes at most 32 of it.
 #[derive(Drop)]
 pub struct Pass<'a> {
     pub(crate) table: Table<'a>,

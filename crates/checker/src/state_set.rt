@@ -47,7 +47,8 @@ impl<'a> StateSet<'a> {
         word(self.bytes, RECORD_COUNT)
     }
 
-    // Record `k` of a set for `n` machines.
+    // Record `k` of a set for `n` machines. That it is there is asked of callers, here and in two functions more, which
+    // ask of different records: a type for the place of one would be made for each question.
     pub(crate) fn record(&self, n: u8, k: u16) -> Held
         requires few { n ≤ 6 }
         requires long { 16 + 9 * n * k + 9 * n ≤ length self.now.bytes.now }
@@ -140,7 +141,8 @@ fn entry_at(bytes: &[u8], at: usize) -> Entry
 }
 
 // How the entry at `at` compares with another, as byte strings.
-// No method: that a byte is below 256 is known of a slice that is passed, and not of one in a struct.
+// No method: that a byte is below 256 is known of a slice that is passed, and not of one in a struct. So that the entry
+// is there is asked of callers, as in the two above.
 fn compare_entry(set: &[u8], at: usize, entry: Entry) -> Ordering
     requires { at + 8 < length set.now }
     ensures { MatchOrdering result (Before 9 (entry_byte set.now at) (byte_in (entry_of entry))) (Same 9 (entry_byte set.now at) (byte_in (entry_of entry)) × (entry.code < 2 ^ 64)) (Before 9 (byte_in (entry_of entry)) (entry_byte set.now at)) }

@@ -26,6 +26,7 @@ pub enum Refusal {
     NoMachine = 18,
 }
 
+// Four numbers whatever is wrong, as files and C read them; a value that a refusal has no use for is 0.
 #[derive(Clone, Copy, PartialEq, Eq, Debug)]
 pub struct Fault {
     pub number: Refusal,
