@@ -12,7 +12,7 @@ use Rattle.model.specs.declared.queue.Front.{Front}
 use Rattle.model.specs.Queue.{Over, Waits, Bit, Covers, Begins}
 use Rattle.abstraction.specs.Meaning.{Allowed, Appended}
 use Rattle.abstraction.proofs.Nth.{nth_map, nth_map_none}
-use Rattle.abstraction.proofs.Bitwise.{bit_or_lem, or_left, or_right, bits_ext}
+use Rattle.model.proofs.Bitwise.{bit_or_lem, or_left, or_right, bits_ext}
 use Rattle.abstraction.specs.Distinct.{Below, without}
 use Rattle.abstraction.proofs.Distinct.{without_same, without_other, below_over, absent_not, apart_push, few_below, all_push}
 use Rattle.list_abstraction.specs.List.{firsts, pack, insertions, list_code}

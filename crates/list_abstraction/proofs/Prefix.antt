@@ -8,7 +8,7 @@ use Rattle.std.proofs.lemmas.Bool.{eqb-true, ne_eqb, agree_below, agree_below_at
 use Rattle.std.specs.Int.RustNames.{count_ones}
 use Rattle.model.specs.Queue.{Waits, Bit}
 use Rattle.abstraction.specs.Meaning.{Valid, Good}
-use Rattle.abstraction.proofs.Bitwise.{bit_or_lem, or_left, or_right, pow_bit, bit_pow, bits_ext}
+use Rattle.model.proofs.Bitwise.{bit_or_lem, or_left, or_right, pow_bit, bit_pow, bits_ext}
 use Rattle.abstraction.specs.Distinct.{Apart, Below}
 use Rattle.abstraction.proofs.Masks.{no_bit}
 use Rattle.abstraction.proofs.Distinct.{waits_append, append_waits, apart_push, all_push}

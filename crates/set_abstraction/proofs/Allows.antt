@@ -6,8 +6,8 @@ use Rattle.std.proofs.lemmas.Bool.Decides.{Decides-like}
 use Rattle.model.specs.declared.queue.Front.TheVariants.{Any, Event}
 use Rattle.model.specs.Queue.{Bit, Covers, Begins}
 use Rattle.abstraction.specs.Meaning.{Valid, Allowed}
-use Rattle.abstraction.proofs.Masks.{bit_below}
-use Rattle.abstraction.proofs.Bitwise.{bit_or_lem, or_left, or_right, bits_ext}
+use Rattle.model.proofs.Masks.{bit_below}
+use Rattle.model.proofs.Bitwise.{bit_or_lem, or_left, or_right, bits_ext}
 use Rattle.set_abstraction.specs.Set.{set_code}
 use Rattle.set_abstraction.specs.Codes.{code_waits, waits_code, queue_of, queue_over, code_queue, with_same}
 

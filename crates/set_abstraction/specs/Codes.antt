@@ -7,8 +7,9 @@ use Rattle.std.proofs.lemmas.Bool.{cases_Bool, eqb-true, eqb-false, cases_eq}
 use Rattle.model.specs.Queue.{Over, Waits, Bit, present}
 use Rattle.abstraction.specs.Meaning.{Valid, Good}
 use Rattle.model.proofs.States.{over_back}
-use Rattle.abstraction.proofs.Masks.{bit_below, no_bit}
-use Rattle.abstraction.proofs.Bitwise.{bit_or_lem, or_left, or_right, pow_bit, bit_pow, bits_ext, bit_out}
+use Rattle.model.proofs.Masks.{bit_below}
+use Rattle.abstraction.proofs.Masks.{no_bit}
+use Rattle.model.proofs.Bitwise.{bit_or_lem, or_left, or_right, pow_bit, bit_pow, bits_ext, bit_out}
 use Rattle.abstraction.proofs.Distinct.{waits_append, append_waits}
 use Rattle.set_abstraction.specs.Set.{set_code, absent}
 

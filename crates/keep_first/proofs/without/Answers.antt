@@ -1,7 +1,7 @@
 use Rattle.std.proofs.Common.{◌≡◌, ℕ, ◌-◌, sym, subst, arith}
 use lib.Bits.{bit_and}
 use Rattle.model.specs.Queue.{Bit}
-use Rattle.abstraction.proofs.Bitwise.{bit_out}
+use Rattle.model.proofs.Bitwise.{bit_out}
 use Rattle.keep_first.proofs.without.Goals as goal
 
 abbrev Out : ℕ → ℕ → ℕ → Type 0
