@@ -1,10 +1,11 @@
 -- Masks and queues. Assumes nothing.
-use Rattle.std.proofs.Common.{◌≡◌, ℕ, zero, suc, ◌+◌, ◌/◌, ◌%◌, ◌^◌, ◌<◌, ◌≤◌, List, [], ◌∷◌, ap, subst, inl, inr, add-zero, arith}
+use Rattle.std.proofs.Common.{◌≡◌, ℕ, zero, suc, Bool, Decides, ◌+◌, ◌/◌, ◌%◌, ◌^◌, ◌<◌, ◌≤◌, List, [], ◌∷◌, ap, subst, inl, inr, add-zero, arith}
 use Rattle.std.specs.List.{range_with_len}
 use Rattle.std.proofs.lemmas.Nat.{shr_below}
 use Rattle.std.proofs.lemmas.Nat.Bits.{bit_at-zero}
 use Rattle.std.proofs.lemmas.Bool.{cases_lt}
-use Rattle.model.specs.Queue.{Over, Waits, Bit, Covers}
+use Rattle.std.proofs.lemmas.Bool.Decides.{Decides-at, Decides-eqb}
+use Rattle.model.specs.Queue.{Over, Waits, Bit, present, Covers}
 use Rattle.model.proofs.Masks.{quotient_zero}
 
 -- an event that stands in a queue over m events is below m
@@ -42,3 +43,7 @@ no_bit e b = omega (arith, b, bit_at-zero e)
 
 pub covers_zero : (Q : List ℕ) → Covers 0 Q
 covers_zero Q e b = absurd (no_bit e b)
+
+-- what the test of a bit tells of the mask that was cast for it
+pub has_bit : (mask e : ℕ) {cast : ℕ} {r : Bool} → r ≡ present cast e → cast ≡ mask → Decides r (Bit mask e)
+has_bit mask e {cast = cast} {r = r} h p = subst (λ (x : ℕ). Decides r (Bit x e)) p (Decides-at _ _ h (Decides-eqb (cast / 2 ^ e % 2) 1))
