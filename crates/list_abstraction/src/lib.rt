@@ -29,7 +29,7 @@ fn read(m: u8, c: u64) -> Option<u8>
     // a loop that divides, since the code ends where nothing is left: an iterator over digits would not tell a gap
     while rest != 0 {
         let digit = (rest % 16) as u8;
-        if digit == 0 || digit > m {
+        if !(1..=m).contains(&digit) {
             return None;
         }
         let e = digit - 1;

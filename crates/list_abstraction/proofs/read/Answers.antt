@@ -1,4 +1,4 @@
-use Rattle.std.proofs.Common.{◌≡◌, ℕ, ◌+◌, ◌-◌, ◌*◌, ◌/◌, ◌%◌, ◌^◌, ◌<◌, sym, refl, ap, ◌∙◌, subst, inl, inr, arith}
+use Rattle.std.proofs.Common.{◌≡◌, ℕ, ◌+◌, ◌-◌, ◌*◌, ◌/◌, ◌%◌, ◌^◌, ◌<◌, ◌≤◌, sym, refl, ap, ◌∙◌, subst, inl, inr, arith, rules}
 use lib.Bits.{bit_or}
 use Rattle.std.proofs.lemmas.Bool.Decides.{not_from_Decides}
 use Rattle.model.specs.Queue.{Bit}
@@ -6,11 +6,14 @@ use Rattle.abstraction.proofs.Masks.{has_bit}
 use Rattle.list_abstraction.proofs.Prefix.{Far, far_start, far_more, far_done, far_next}
 use Rattle.list_abstraction.proofs.read.Goals as goal
 
-pub returns-then-digit-eq0 : goal.returns-then-digit-eq0
-returns-then-digit-eq0 c g =
+pub returns-then-not-contains : goal.returns-then-not-contains
+returns-then-not-contains c g =
     let v = c.if-not-valid.ensures.0 refl in
     let (e, r, p, l, _) = far_next c.args.m c.args.c v _ _ c.loop-rest.invariant g c.loop-rest-test.true in
-    elim c.then-digit-eq0.either [ inl z ↦ omega arith | inr z ↦ omega (arith, z.1) ]
+    let few = v.few in
+    let k : 1 ≤ c.loop-rest.rest % 16 = omega arith in
+    let u : c.loop-rest.rest % 16 ≤ c.args.m = omega arith in
+    search rules
 
 pub returns-then-has : goal.returns-then-has
 returns-then-has c g =
@@ -24,9 +27,9 @@ loop-rest-preserved c =
     let v = c.if-not-valid.ensures.0 refl in
     let rest = c.loop-rest.rest in
     let e : ℕ = rest % 16 - 1 in
-    let z = c.if-digit-eq0.false in
-    let p : rest ≡ 16 * (rest / 16) + e + 1 = omega arith in
-    let l : e < c.args.m = omega (arith, c.if-digit-m.false) in
+    let r : (1 ≤ rest % 16) × (rest % 16 ≤ c.args.m) = search rules in
+    let p : rest ≡ 16 * (rest / 16) + e + 1 = omega (arith, r.0) in
+    let l : e < c.args.m = omega (arith, r.0, r.1) in
     let f = subst (λ (x : ℕ). Far c.args.m c.args.c x c.loop-rest.mask) p c.loop-rest.invariant in
     let o : c.bit-mask.result ≡ 2 ^ e = c.bit-mask.ensures.event (omega (arith, l, v.few)) in
     let n : Bit c.loop-rest.mask e → ⊥ = not_from_Decides _ (has_bit _ _ c.has.ensures c.from.ensures) c.if-has.false in
