@@ -1,5 +1,5 @@
 -- What the set abstraction allows. Assumes nothing.
-use Rattle.std.proofs.Common.{◌≡◌, ℕ, ◌^◌, ◌<◌, Bool, List, [], ◌∷◌, Decides, sym, refl, ap, ◌∙◌, subst, inl, inr, lt_of_lt_of_le, arith, pow_mono}
+use Rattle.std.proofs.Common.{◌≡◌, ℕ, ◌^◌, ◌<◌, Bool, List, [], ◌∷◌, Decides, sym, refl, ap, ◌∙◌, subst, inl, arith}
 use lib.Bits.{bit_or}
 use Rattle.std.proofs.lemmas.Bool.Decides.{Decides-like}
 use Rattle.model.specs.declared.queue.Front.TheVariants.{Any, Event}

@@ -1,9 +1,9 @@
-use Rattle.std.proofs.Common.{◌≡◌, ℕ, ◌+◌, ◌-◌, ◌*◌, ◌/◌, ◌%◌, ◌^◌, ◌<◌, ◌≤◌, sym, refl, ap, ◌∙◌, subst, inl, inr, arith, rules}
+use Rattle.std.proofs.Common.{◌≡◌, ℕ, ◌+◌, ◌-◌, ◌*◌, ◌/◌, ◌%◌, ◌^◌, ◌<◌, ◌≤◌, sym, refl, subst, arith, rules}
 use lib.Bits.{bit_or}
 use Rattle.std.proofs.lemmas.Bool.Decides.{not_from_Decides}
 use Rattle.model.specs.Queue.{Bit}
 use Rattle.abstraction.proofs.Masks.{has_bit}
-use Rattle.list_abstraction.proofs.Prefix.{Far, far_start, far_more, far_done, far_next}
+use Rattle.list_abstraction.proofs.Prefix.{Far, far_more, far_done, far_next}
 use Rattle.list_abstraction.proofs.read.Goals as goal
 
 pub returns-then-not-contains : goal.returns-then-not-contains

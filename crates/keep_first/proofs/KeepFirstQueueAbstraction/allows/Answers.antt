@@ -1,9 +1,9 @@
-use Rattle.std.proofs.Common.{ℕ, eqb, List, ◌∷◌, None, Decides, sym, refl, ◌∙◌, subst, arith}
+use Rattle.std.proofs.Common.{ℕ, eqb, List, ◌∷◌, Decides, sym, refl, ◌∙◌, subst, arith}
 use Rattle.std.proofs.lemmas.Bool.{false≢true, eqb-true}
 use Rattle.model.specs.declared.queue.Front.{Front}
-use Rattle.abstraction.specs.Meaning.{Valid, Allowed}
+use Rattle.abstraction.specs.Meaning.{Allowed}
 use Rattle.model.specs.Queue.{Begins}
-use Rattle.keep_first.specs.KeepFirst.{Split, keep_bits, keep_code}
+use Rattle.keep_first.specs.KeepFirst.{keep_bits, keep_code}
 use Rattle.keep_first.specs.Kept.{allow_none, allow_parts, allow_up}
 use Rattle.keep_first.proofs.KeepFirstQueueAbstraction.allows.Goals as goal
 use Rattle.keep_first.proofs.KeepFirstQueueAbstraction.allows.Goals.{in-Any, in-Empty, in-Event-front}

@@ -1,8 +1,8 @@
-use Rattle.std.proofs.Common.{◌≡◌, ℕ, ◌^◌, ◌<◌, true, ltb, [], Some, None, sym, refl, ◌∙◌, subst, arith}
+use Rattle.std.proofs.Common.{◌≡◌, ℕ, ◌^◌, ◌<◌, true, ltb, [], Some, sym, refl, ◌∙◌, subst, arith}
 use Rattle.std.proofs.lemmas.Bool.{false≢true}
 use Rattle.std.proofs.lemmas.Bool.Decides.{nat_tests}
 use Rattle.abstraction.specs.Meaning.{Valid, Appended}
-use Rattle.keep_first.specs.KeepFirst.{Split, keep_bits, keep_code}
+use Rattle.keep_first.specs.KeepFirst.{keep_bits, keep_code}
 use Rattle.keep_first.specs.Kept.{narrow_below, valid_below, append_up, append_small, good_parts}
 use Rattle.keep_first.proofs.KeepFirstQueueAbstraction.append.Goals as goal
 use Rattle.keep_first.proofs.KeepFirstQueueAbstraction.append.Goals.{then-in_use, else-in_use}
