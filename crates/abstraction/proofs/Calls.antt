@@ -2,6 +2,7 @@
 use Rattle.std.proofs.Common.{◌≡◌, ℕ, ◌^◌, ◌<◌, Bool, List, [], ◌∷◌, None, Decides, sym, subst, arith}
 use Rattle.std.specs.List.{slice_get}
 use Rattle.std.proofs.lemmas.Bool.Decides.{Decides-like}
+use Rattle.model.specs.declared.queue.Front.{Front}
 use Rattle.model.specs.declared.queue.Front.TheVariants.{Empty}
 use Rattle.model.specs.Queue.{Begins, Covers}
 use Rattle.abstraction.specs.Meaning.{Valid, Good, Allowed, Meaning}
@@ -21,6 +22,10 @@ empty_allows w code m c mask v z low r d = Decides-like r
     none : (Q : List ℕ) → Begins Empty Q → Covers mask Q → mask ≡ 0
     none [] b h = covers_none mask low h
     none (e ∷ Q) b h = absurd b
+
+-- an answer for a front is one for whatever that front is
+pub at_front : {w : ℕ} {code : ℕ → List ℕ → ℕ} {m c mask : ℕ} {f g : Front} {r : Bool} → f ≡ g → Decides r (Allowed w code m c g mask) → Decides r (Allowed w code m c f mask)
+at_front {w = w} {code = code} {m = m} {c = c} {mask = mask} {r = r} p d = subst (λ (x : Front). Decides r (Allowed w code m c x mask)) (sym p) d
 
 -- a code that is not good has no removals
 pub no_removal : {w : ℕ} {code : ℕ → List ℕ → ℕ} {removals : ℕ → ℕ → List (ℕ × ℕ)} → Meaning w code removals → (m c k : ℕ) → (Good w code m c → ⊥) → None ≡ slice_get (removals m c) k

@@ -1,6 +1,5 @@
 pub mod Nth
 pub mod Distinct
 pub mod Masks
-pub mod Bitwise
 pub mod Few
 pub mod Calls

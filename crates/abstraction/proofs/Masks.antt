@@ -1,10 +1,11 @@
 -- Masks and queues. Assumes nothing.
-use Rattle.std.proofs.Common.{◌≡◌, ℕ, zero, suc, ◌+◌, ◌/◌, ◌%◌, ◌^◌, ◌<◌, ◌≤◌, List, [], ◌∷◌, ap, subst, inl, inr, add-zero, arith}
+use Rattle.std.proofs.Common.{◌≡◌, ℕ, zero, suc, Bool, Decides, ◌+◌, ◌/◌, ◌%◌, ◌^◌, ◌<◌, ◌≤◌, List, [], ◌∷◌, ap, subst, inl, inr, add-zero, arith}
 use Rattle.std.specs.List.{range_with_len}
 use Rattle.std.proofs.lemmas.Nat.{shr_below}
-use Rattle.std.proofs.lemmas.Nat.Bits.{bit_at_above, bit_at-zero}
+use Rattle.std.proofs.lemmas.Nat.Bits.{bit_at-zero}
 use Rattle.std.proofs.lemmas.Bool.{cases_lt}
-use Rattle.model.specs.Queue.{Over, Waits, Bit, Covers}
+use Rattle.std.proofs.lemmas.Bool.Decides.{Decides-at, Decides-eqb}
+use Rattle.model.specs.Queue.{Over, Waits, Bit, present, Covers}
 use Rattle.model.proofs.Masks.{quotient_zero}
 
 -- an event that stands in a queue over m events is below m
@@ -12,10 +13,6 @@ pub waits_below : (m e : ℕ) (Q : List ℕ) → Over m Q → Waits e Q → e < 
 waits_below m e [] o h = absurd h
 waits_below m e (f ∷ Q) o (inl p) = omega (arith, o.0)
 waits_below m e (f ∷ Q) o (inr h) = waits_below m e Q o.1 h
-
--- a number below 2 ^ m has its bits below m
-pub bit_below : (m mask e : ℕ) → mask < 2 ^ m → Bit mask e → e < m
-bit_below m mask e h b = elim (cases_lt e m) [ inl l ↦ l | inr l ↦ absurd (omega (arith, b, bit_at_above mask m e h l)) ]
 
 -- a number whose bits are below m is below 2 ^ m
 pub below_bits : (n m mask : ℕ) → mask < 2 ^ (m + n) → ((e : ℕ) → Bit mask e → e < m) → mask < 2 ^ m
@@ -46,3 +43,7 @@ no_bit e b = omega (arith, b, bit_at-zero e)
 
 pub covers_zero : (Q : List ℕ) → Covers 0 Q
 covers_zero Q e b = absurd (no_bit e b)
+
+-- what the test of a bit tells of the mask that was cast for it
+pub has_bit : (mask e : ℕ) {cast : ℕ} {r : Bool} → r ≡ present cast e → cast ≡ mask → Decides r (Bit mask e)
+has_bit mask e {cast = cast} {r = r} h p = subst (λ (x : ℕ). Decides r (Bit x e)) p (Decides-at _ _ h (Decides-eqb (cast / 2 ^ e % 2) 1))

@@ -9,5 +9,5 @@ pub const WIDEST_CODE: u8 = 60;
 pub fn valid(m: u8, width: u8) -> bool
     ensures { Decides result (Valid m width) }
 {
-    1 <= m && m <= MOST_EVENTS && width <= WIDEST_CODE
+    (1..=MOST_EVENTS).contains(&m) && width <= WIDEST_CODE
 }

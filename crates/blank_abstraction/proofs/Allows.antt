@@ -6,7 +6,8 @@ use Rattle.model.specs.declared.queue.Front.TheVariants.{Any, Event}
 use Rattle.model.specs.Queue.{Over, Covers}
 use Rattle.abstraction.specs.Meaning.{Valid, Allowed}
 use Rattle.blank_abstraction.specs.Blank.{blank_code}
-use Rattle.abstraction.proofs.Masks.{waits_below, bit_below, below_bits, counting_waits, counting_over}
+use Rattle.model.proofs.Masks.{bit_below}
+use Rattle.abstraction.proofs.Masks.{waits_below, below_bits, counting_waits, counting_over}
 
 abbrev Free : ℕ → ℕ → Front → ℕ → Type 0
 Free m c front mask = Allowed 0 blank_code m c front mask

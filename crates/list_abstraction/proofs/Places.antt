@@ -2,9 +2,8 @@
 use Rattle.std.proofs.Common.{◌≡◌, ℕ, zero, suc, ◌+◌, ◌*◌, ◌/◌, ◌%◌, ◌^◌, ◌<◌, ◌≤◌, Bool, cond, List, [], ◌∷◌, ◌++◌, length, Some, None, Decides, sym, refl, ap, ◌∙◌, subst, inl, inr, mul_assoc, mul_comm, arith}
 use native.Mathlib.Nat.{div-div-eq-div-mul}
 use lib.Arith.{mod-mul}
-use lib.Bits.{bit_or}
 use Rattle.std.specs.List.{slice_get}
-use Rattle.std.proofs.lemmas.Nat.{pow_pos, pow-add, or_lt}
+use Rattle.std.proofs.lemmas.Nat.{pow_pos, pow-add}
 use Rattle.std.proofs.lemmas.List.{length_push}
 use Rattle.std.proofs.lemmas.Bool.{cases_eq}
 use Rattle.std.proofs.lemmas.Bool.Decides.{Decides-like}
@@ -12,7 +11,6 @@ use Rattle.model.specs.declared.queue.Front.{Front}
 use Rattle.model.specs.Queue.{Over, Waits, Bit, Covers, Begins}
 use Rattle.abstraction.specs.Meaning.{Allowed, Appended}
 use Rattle.abstraction.proofs.Nth.{nth_map, nth_map_none}
-use Rattle.abstraction.proofs.Bitwise.{bit_or_lem, or_left, or_right, bits_ext}
 use Rattle.abstraction.specs.Distinct.{Below, without}
 use Rattle.abstraction.proofs.Distinct.{without_same, without_other, below_over, absent_not, apart_push, few_below, all_push}
 use Rattle.list_abstraction.specs.List.{firsts, pack, insertions, list_code}
@@ -109,20 +107,17 @@ module _ (m c : ℕ) (L : List ℕ) (k : Coded m c L) where
       (omega arith, subst (λ (x : ℕ). x < 2 ^ 32) (pack_add L e ∙ ap (λ (x : ℕ). x + (e + 1) * 2 ^ (4 * length L)) k.packed) (pack_below m 8 (L ++ e ∷ []) few b h))
 
   -- which masks a queue with the code holds
-  module _ (seen mask : ℕ) (low : seen < 2 ^ 8) (marks : Marks seen L) (small : mask < 2 ^ 8) where
-    part : bit_or mask seen ≡ seen → (Q : List ℕ) → firsts Q ≡ L → Covers mask Q
-    part p Q q e b = firsts_wait e Q (subst (Waits e) (sym q) ((marks e).0 (subst (λ (x : ℕ). Bit x e) p (or_left mask seen e b))))
+  module _ (seen mask : ℕ) (marks : Marks seen L) where
+    part : ((e : ℕ) → Bit mask e → Bit seen e) → (Q : List ℕ) → firsts Q ≡ L → Covers mask Q
+    part p Q q e b = firsts_wait e Q (subst (Waits e) (sym q) ((marks e).0 (p e b)))
 
-    part_back : (Q : List ℕ) → firsts Q ≡ L → Covers mask Q → bit_or mask seen ≡ seen
-    part_back Q q h =
-        bits_ext 8 (bit_or mask seen) seen (or_lt 8 mask seen small low) low
-        (λ e b. elim (bit_or_lem mask seen e b) [ inl i ↦ (marks e).1 (subst (Waits e) q (wait_firsts e Q (h e i))) | inr i ↦ i ])
-        (λ e b. or_right mask seen e b)
+    part_back : (Q : List ℕ) → firsts Q ≡ L → Covers mask Q → (e : ℕ) → Bit mask e → Bit seen e
+    part_back Q q h e b = (marks e).1 (subst (Waits e) q (wait_firsts e Q (h e b)))
 
     same : firsts L ≡ L
     same = firsts_same L k.apart
 
-    pub list_allows : (front : Front) → Begins front L → (r : Bool) → Decides r (bit_or mask seen ≡ seen) → Decides r (Allowed 32 list_code m c front mask)
+    pub list_allows : (front : Front) → Begins front L → (r : Bool) → Decides r ((e : ℕ) → Bit mask e → Bit seen e) → Decides r (Allowed 32 list_code m c front mask)
     list_allows front begin r d = Decides-like r
         (λ p. record { valid = k.valid; queue = L; over = below_over m L k.below; coded = ap pack same ∙ k.packed; begins = begin; covers = part p L same })
         (λ a. part_back a.queue (its_list a.queue a.over a.coded) a.covers) d

@@ -8,7 +8,7 @@ use Rattle.std.proofs.lemmas.Bool.{eqb-true, ne_eqb, agree_below, agree_below_at
 use Rattle.std.specs.Int.RustNames.{count_ones}
 use Rattle.model.specs.Queue.{Waits, Bit}
 use Rattle.abstraction.specs.Meaning.{Valid, Good}
-use Rattle.abstraction.proofs.Bitwise.{bit_or_lem, or_left, or_right, pow_bit, bit_pow, bits_ext}
+use Rattle.model.proofs.Bitwise.{bit_or_lem, or_left, or_right, pow_bit, bit_pow}
 use Rattle.abstraction.specs.Distinct.{Apart, Below}
 use Rattle.abstraction.proofs.Masks.{no_bit}
 use Rattle.abstraction.proofs.Distinct.{waits_append, append_waits, apart_push, all_push}
@@ -54,16 +54,6 @@ apart_middle : (P : List ℕ) (f : ℕ) (R : List ℕ) → Apart (P ++ f ∷ R) 
 apart_middle [] f R a h = h
 apart_middle (e ∷ P) f R a (inl p) = all_middle (λ (y : ℕ). y ≡ e → ⊥) P f R a.0 p
 apart_middle (e ∷ P) f R a (inr h) = apart_middle P f R a.1 h
-
--- whether a mask has a bit
-pub has_bit : (mask e : ℕ) → bit_or mask (2 ^ e) ≡ mask → Bit mask e
-has_bit mask e p = subst (λ (x : ℕ). Bit x e) p (or_right mask (2 ^ e) e (pow_bit e))
-
-pub bit_has : (mask e : ℕ) → mask < 2 ^ 8 → e < 8 → Bit mask e → bit_or mask (2 ^ e) ≡ mask
-bit_has mask e low l b =
-    bits_ext 8 (bit_or mask (2 ^ e)) mask (or_lt 8 mask (2 ^ e) low (pow_below e 8 l)) low
-    (λ f h. elim (bit_or_lem mask (2 ^ e) f h) [ inl i ↦ i | inr i ↦ subst (Bit mask) (sym (bit_pow e f i)) b ])
-    (λ f h. or_left mask (2 ^ e) f h)
 
 -- no bits, and a bit more
 none_counted : 0 ≡ count_ones 0

@@ -9,7 +9,7 @@ ghost use Rattle.list_abstraction.specs.Meaning.{list_meaning};
 
 use abstraction::QueueAbstraction;
 use abstraction::limits::valid;
-use model::mask::bit;
+use model::mask::{bit, has, within};
 use model::queue::Front;
 
 #[derive(Clone, Copy, PartialEq, Eq, Debug, Default)]
@@ -29,14 +29,14 @@ fn read(m: u8, c: u64) -> Option<u8>
     // a loop that divides, since the code ends where nothing is left: an iterator over digits would not tell a gap
     while rest != 0 {
         let digit = (rest % 16) as u8;
-        if digit == 0 || digit > m {
+        if !(1..=m).contains(&digit) {
             return None;
         }
-        let one = bit(digit - 1);
-        if mask | one == mask {
+        let e = digit - 1;
+        if has(u64::from(mask), e) {
             return None;
         }
-        mask |= one;
+        mask |= bit(e);
         rest /= 16;
     }
     Some(mask)
@@ -76,7 +76,7 @@ impl QueueAbstraction for ListAbstraction {
         if e >= m {
             return None;
         }
-        if listed | bit(e) == listed {
+        if has(u64::from(listed), e) {
             return Some(c);
         }
         Some(c + (u64::from(e) + 1) * place(listed.count_ones()))
@@ -87,7 +87,7 @@ impl QueueAbstraction for ListAbstraction {
         let Some(listed) = read(m, c) else {
             return false;
         };
-        let wait = mask | listed == listed;
+        let wait = within(mask, listed);
         match front {
             Front::Any => wait,
             Front::Empty => c == 0 && mask == 0,

@@ -1,3 +1,4 @@
+pub mod Bitwise
 pub mod Counted
 pub mod Findings
 pub mod Flat

@@ -1,6 +1,6 @@
 // Masks of events: bit e, of value 2^e, stands for event e.
-ghost use Rattle.std.specs.Prelude.{◌≡◌, ◌^◌, ◌<◌, ◌≤◌, Decides};
-ghost use Rattle.model.specs.Queue.{present};
+ghost use Rattle.std.specs.Prelude.{◌≡◌, ℕ, ◌^◌, ◌<◌, ◌≤◌, ◌≢◌, Decides};
+ghost use Rattle.model.specs.Queue.{Bit, present};
 
 // A mask has a bit for each event.
 pub const MOST_EVENTS: u8 = 8;
@@ -25,4 +25,19 @@ pub fn has(mask: u64, e: u8) -> bool
     ensures { result ≡ present mask e }
 {
     e < 64 && (mask >> e) % 2 == 1
+}
+
+// Is each event of the mask one of those held?
+pub fn within(mask: u8, held: u8) -> bool
+    ensures { Decides result ((e : ℕ) → Bit mask e → Bit held e) }
+{
+    mask | held == held
+}
+
+// The mask without event e: from 8 up the mask as it was.
+pub fn without(mask: u8, e: u8) -> u8
+    ensures bits { (f : ℕ) → (Bit result f → (f ≢ e) × Bit mask f) × (Bit mask f → (f ≢ e) → Bit result f) }
+    ensures nothing { 8 ≤ e → result ≡ mask }
+{
+    mask & !bit(e)
 }

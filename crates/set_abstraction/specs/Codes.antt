@@ -7,8 +7,9 @@ use Rattle.std.proofs.lemmas.Bool.{cases_Bool, eqb-true, eqb-false, cases_eq}
 use Rattle.model.specs.Queue.{Over, Waits, Bit, present}
 use Rattle.abstraction.specs.Meaning.{Valid, Good}
 use Rattle.model.proofs.States.{over_back}
-use Rattle.abstraction.proofs.Masks.{bit_below, no_bit}
-use Rattle.abstraction.proofs.Bitwise.{bit_or_lem, or_left, or_right, pow_bit, bit_pow, bits_ext, bit_out}
+use Rattle.model.proofs.Masks.{bit_below}
+use Rattle.abstraction.proofs.Masks.{no_bit}
+use Rattle.model.proofs.Bitwise.{bit_or_lem, or_left, or_right, pow_bit, bit_pow, bits_ext, bit_out}
 use Rattle.abstraction.proofs.Distinct.{waits_append, append_waits}
 use Rattle.set_abstraction.specs.Set.{set_code, absent}
 
@@ -66,6 +67,10 @@ good_set m c v l = record { valid = v; queue = queue_of m c; over = queue_over m
 pub set_good_below : (m c : ℕ) → Good 8 set_code m c → c < 2 ^ m
 set_good_below m c g = subst (λ (x : ℕ). x < 2 ^ m) g.coded (code_below m g.queue g.over)
 
+-- a good code is a byte
+pub good_byte : (m c : ℕ) → Good 8 set_code m c → c < 256
+good_byte m c g = lt_of_lt_of_le (set_good_below m c g) (pow_mono g.valid.few)
+
 pub code_append : (m e : ℕ) (Q : List ℕ) → Over m Q → e < m → set_code m (Q ++ e ∷ []) ≡ bit_or (set_code m Q) (2 ^ e)
 code_append m e Q o l =
     bits_ext m (set_code m (Q ++ e ∷ [])) (bit_or (set_code m Q) (2 ^ e)) (code_below m (Q ++ e ∷ []) (over_back m e Q l o)) (or_lt m (set_code m Q) (2 ^ e) (code_below m Q o) (pow_below e m l))
@@ -85,6 +90,13 @@ module _ (m c e : ℕ) (few : m ≤ 8) (l : c < 2 ^ m) (le : e < m) where
 
   out : (f : ℕ) → (Bit (absent c e) f → (f ≢ e) × Bit c f) × (Bit c f → (f ≢ e) → Bit (absent c e) f)
   out f = bit_out c e f byte (omega arith)
+
+  -- only this number has these bits
+  pub absent_only : (r : ℕ) → r < 256 → ((f : ℕ) → (Bit r f → (f ≢ e) × Bit c f) × (Bit c f → (f ≢ e) → Bit r f)) → r ≡ absent c e
+  absent_only r k h =
+      bits_ext 8 r (absent c e) k (lt_of_lt_of_le absent_below (pow_mono few))
+      (λ f b. (out f).1 ((h f).0 b).1 ((h f).0 b).0)
+      (λ f b. (h f).1 ((out f).0 b).1 ((out f).0 b).0)
 
   pub with_absent : Bit c e → bit_or (2 ^ e) (absent c e) ≡ c
   with_absent b =

@@ -9,7 +9,7 @@ use Rattle.std.proofs.lemmas.Option.{none-some, same_Some}
 use Rattle.model.specs.Queue.{Bit, present}
 use Rattle.abstraction.specs.Meaning.{Removal, Meaning}
 use Rattle.abstraction.proofs.Nth.{nth_cond}
-use Rattle.abstraction.proofs.Bitwise.{or_left, pow_bit}
+use Rattle.model.proofs.Bitwise.{or_left, pow_bit}
 use Rattle.set_abstraction.specs.Set.{set_code, absent, set_from, set_good, set_removals}
 use Rattle.set_abstraction.specs.Codes.{code_below, queue_of, queue_over, code_queue, code_append, absent_below, with_absent, with_same, absent_apart, before_put}
 

@@ -9,7 +9,7 @@ ghost use Rattle.set_abstraction.specs.Removals.{set_meaning};
 
 use abstraction::QueueAbstraction;
 use abstraction::limits::valid;
-use model::mask::{bit, fits, has};
+use model::mask::{bit, fits, has, within, without};
 use model::queue::Front;
 
 #[derive(Clone, Copy, PartialEq, Eq, Debug, Default)]
@@ -52,7 +52,7 @@ impl QueueAbstraction for SetAbstraction {
         if !self.good(m, c) {
             return false;
         }
-        let held = u64::from(mask) | c == c;
+        let held = within(mask, c as u8);
         match front {
             Front::Any => held,
             Front::Empty => c == 0 && mask == 0,
@@ -67,7 +67,7 @@ impl QueueAbstraction for SetAbstraction {
         }
         let e = nth_event(m, c, k / 2)?;
         let left = if k % 2 == 0 {
-            c & u64::from(!bit(e))
+            u64::from(without(c as u8, e))
         } else {
             c
         };

@@ -1,34 +1,38 @@
-use Rattle.std.proofs.Common.{◌≡◌, ℕ, ◌+◌, ◌-◌, ◌*◌, ◌/◌, ◌%◌, ◌^◌, ◌<◌, sym, refl, ap, ◌∙◌, subst, inl, inr, arith}
+use Rattle.std.proofs.Common.{◌≡◌, ℕ, ◌+◌, ◌-◌, ◌*◌, ◌/◌, ◌%◌, ◌^◌, ◌<◌, ◌≤◌, sym, refl, subst, arith, rules}
 use lib.Bits.{bit_or}
+use Rattle.std.proofs.lemmas.Bool.Decides.{not_from_Decides}
 use Rattle.model.specs.Queue.{Bit}
-use Rattle.list_abstraction.proofs.Prefix.{Far, far_start, far_more, far_done, far_next, has_bit, bit_has}
+use Rattle.abstraction.proofs.Masks.{has_bit}
+use Rattle.list_abstraction.proofs.Prefix.{Far, far_more, far_done, far_next}
 use Rattle.list_abstraction.proofs.read.Goals as goal
 
-pub returns-then-digit-eq0 : goal.returns-then-digit-eq0
-returns-then-digit-eq0 c g =
+pub returns-then-not-contains : goal.returns-then-not-contains
+returns-then-not-contains c g =
     let v = c.if-not-valid.ensures.0 refl in
     let (e, r, p, l, _) = far_next c.args.m c.args.c v _ _ c.loop-rest.invariant g c.loop-rest-test.true in
-    elim c.then-digit-eq0.either [ inl z ↦ omega arith | inr z ↦ omega (arith, z.1) ]
+    let few = v.few in
+    let k : 1 ≤ c.loop-rest.rest % 16 = omega arith in
+    let u : c.loop-rest.rest % 16 ≤ c.args.m = omega arith in
+    search rules
 
-pub returns-then-mask-one : goal.returns-then-mask-one
-returns-then-mask-one c g =
+pub returns-then-has : goal.returns-then-has
+returns-then-has c g =
     let v = c.if-not-valid.ensures.0 refl in
     let (e, r, p, l, n) = far_next c.args.m c.args.c v _ _ c.loop-rest.invariant g c.loop-rest-test.true in
     let q : c.loop-rest.rest % 16 - 1 ≡ e = omega arith in
-    let b : c.bit-one.result ≡ 2 ^ e = c.bit-one.ensures.event (omega (arith, l, q, v.few)) ∙ ap (λ (x : ℕ). 2 ^ x) q in
-    n (has_bit c.loop-rest.mask e (ap (bit_or c.loop-rest.mask) (sym b) ∙ c.if-mask-one.true))
+    n (subst (Bit c.loop-rest.mask) q ((has_bit _ _ c.has.ensures c.from.ensures).0 c.if-has.true))
 
 pub loop-rest-preserved : goal.loop-rest-preserved
 loop-rest-preserved c =
     let v = c.if-not-valid.ensures.0 refl in
     let rest = c.loop-rest.rest in
     let e : ℕ = rest % 16 - 1 in
-    let z = c.if-digit-eq0.false in
-    let p : rest ≡ 16 * (rest / 16) + e + 1 = omega arith in
-    let l : e < c.args.m = omega (arith, c.if-digit-m.false) in
+    let r : (1 ≤ rest % 16) × (rest % 16 ≤ c.args.m) = search rules in
+    let p : rest ≡ 16 * (rest / 16) + e + 1 = omega (arith, r.0) in
+    let l : e < c.args.m = omega (arith, r.0, r.1) in
     let f = subst (λ (x : ℕ). Far c.args.m c.args.c x c.loop-rest.mask) p c.loop-rest.invariant in
-    let o : c.bit-one.result ≡ 2 ^ e = c.bit-one.ensures.event (omega (arith, l, v.few)) in
-    let n : Bit c.loop-rest.mask e → ⊥ = λ b. c.if-mask-one.false (ap (bit_or c.loop-rest.mask) o ∙ bit_has c.loop-rest.mask e c.loop-rest.invariant.low (omega arith) b) in
+    let o : c.bit-mask.result ≡ 2 ^ e = c.bit-mask.ensures.event (omega (arith, l, v.few)) in
+    let n : Bit c.loop-rest.mask e → ⊥ = not_from_Decides _ (has_bit _ _ c.has.ensures c.from.ensures) c.if-has.false in
     subst (λ (x : ℕ). Far c.args.m c.args.c (rest / 16) (bit_or c.loop-rest.mask x)) (sym o)
     (far_more c.args.m c.args.c v (rest / 16) c.loop-rest.mask e f l n)
 

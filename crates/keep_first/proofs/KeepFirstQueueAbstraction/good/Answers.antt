@@ -1,4 +1,4 @@
-use Rattle.std.proofs.Common.{◌≡◌, ℕ, Bool, false, List, Some, None, Option, Decides, sym, ◌∙◌, subst, rules}
+use Rattle.std.proofs.Common.{◌≡◌, ℕ, Bool, false, List, Some, None, Option, Decides, sym, ◌∙◌, rules}
 use Rattle.std.proofs.lemmas.Bool.{false≢true}
 use Rattle.std.specs.Option.{MatchOption}
 use Rattle.abstraction.specs.Meaning.{Good}
@@ -18,4 +18,4 @@ pub returns : goal.returns
 returns g c =
     let p = c.args.self.now.below in
     told (g.A.QueueAbstraction.bits p) (g.A.QueueAbstraction.code p) c.args.m c.args.c c.split.result c.is_some_and.result c.if-c-eq0.false
-    (subst (λ (w : ℕ). Split w c.args.m c.args.c c.split.result) c.width-2.ensures c.split.ensures) c.is_some_and.ensures (λ x q. search rules)
+    c.split.ensures c.is_some_and.ensures (λ x q. search rules)

@@ -1,6 +1,6 @@
 use Rattle.std.proofs.Common.{◌≡◌, ℕ, suc, ◌+◌, ◌-◌, ◌*◌, ◌/◌, ◌%◌, ◌^◌, ◌<◌, ◌≤◌, List, ◌∷◌, length, Some, sym, ap, ◌∙◌, subst, arith}
 use Rattle.std.specs.List.{slice_get}
-use Rattle.abstraction.proofs.Nth.{nothing, nth_map, nth_map_none}
+use Rattle.abstraction.proofs.Nth.{nth_map, nth_map_none}
 use Rattle.abstraction.proofs.Distinct.{few_below}
 use Rattle.abstraction.proofs.Calls.{no_removal}
 use Rattle.std.specs.Int.RustNames.{count_ones}

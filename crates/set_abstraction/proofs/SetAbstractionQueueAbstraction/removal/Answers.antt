@@ -1,5 +1,4 @@
-use Rattle.std.proofs.Common.{◌≡◌, ℕ, ◌-◌, ◌/◌, ◌%◌, ◌<◌, Bool, true, cond, [], Some, Option, sym, refl, ap, ◌∙◌, arith}
-use lib.Bits.{bit_and}
+use Rattle.std.proofs.Common.{◌≡◌, ℕ, ◌/◌, ◌%◌, Bool, true, cond, [], Some, Option, sym, refl, ap, ◌∙◌, arith}
 use Rattle.std.specs.List.{slice_get, filter, range_with_len}
 use Rattle.std.specs.Option.{option_map}
 use Rattle.std.proofs.lemmas.Bool.{eq-eqb, ne_eqb}
@@ -8,7 +7,7 @@ use Rattle.model.specs.Queue.{present}
 use Rattle.abstraction.specs.Meaning.{Good}
 use Rattle.abstraction.proofs.Calls.{no_removal}
 use Rattle.set_abstraction.specs.Set.{set_code, absent, set_from, set_good, set_removals}
-use Rattle.set_abstraction.specs.Codes.{set_good_below}
+use Rattle.set_abstraction.specs.Codes.{set_good_below, good_byte, absent_only}
 use Rattle.set_abstraction.specs.Removals.{set_meaning}
 use Rattle.set_abstraction.proofs.Picked.{picked, picks}
 use Rattle.set_abstraction.proofs.SetAbstractionQueueAbstraction.removal.Goals as goal
@@ -27,14 +26,17 @@ at m c k r g h =
 pub returns-in_err-e : goal.returns-in_err-e
 returns-in_err-e c = c.from_residual.ensures ∙ sym (at c.args.m c.args.c c.args.k _ (c.if-not-good.ensures.0 refl) c.in_err-e.ensures)
 
+pub overflow_cast-c : goal.overflow_cast-c
+overflow_cast-c c = record { fits = good_byte c.args.m c.args.c (c.if-not-good.ensures.0 refl) }
+
 pub returns-then-k-eq0 : goal.returns-then-k-eq0
 returns-then-k-eq0 c =
     let x = c.args.c in
     let e = c.in_ok-e.e in
     let g = c.if-not-good.ensures.0 refl in
     let h = at c.args.m x c.args.k _ g c.in_ok-e.ensures in
-    let l : e < 8 = omega (arith, (set_meaning.removed c.args.m x c.args.k e _ h).event, g.valid.few) in
-    ap (λ (y : ℕ). Some (e, bit_and x y)) (c.from.ensures ∙ ap (λ (y : ℕ). 255 - y) (c.bit.ensures.event l))
+    let l = (set_meaning.removed c.args.m x c.args.k e _ h).event in
+    ap (λ (y : ℕ). Some (e, y)) (c.from-left.ensures ∙ absent_only c.args.m x e g.valid.few (set_good_below c.args.m x g) l _ (omega arith) c.without.ensures.bits)
     ∙ ap (λ (b : Bool). Some (e, cond b (absent x e) x)) (sym (eq-eqb (c.args.k % 2) 0 c.if-k-eq0.true)) ∙ sym h
 
 pub returns-else-k-eq0 : goal.returns-else-k-eq0

@@ -6,7 +6,7 @@ use Rattle.std.proofs.lemmas.Bool.{cases_eq}
 use Rattle.std.proofs.lemmas.Nat.{one_shl}
 use Rattle.std.proofs.lemmas.Nat.Bits.{bit_at_or, bit_at-lt, bit_at-pow_same, bit_at-pow_other, bit_at_clear_same, bit_at_clear_other, same_from_bits_below}
 use Rattle.model.specs.Queue.{Bit}
-use Rattle.abstraction.proofs.Masks.{bit_below}
+use Rattle.model.proofs.Masks.{bit_below}
 
 -- the bits of a byte with one bit out
 pub bit_out : (mask e f : ℕ) → mask < 256 → e < 8 → (Bit (bit_and mask (255 - 2 ^ e)) f → (f ≡ e → ⊥) × Bit mask f) × (Bit mask f → (f ≡ e → ⊥) → Bit (bit_and mask (255 - 2 ^ e)) f)
