@@ -1,5 +1,5 @@
 -- A rule that is not blocked. Assumes nothing.
-use Rattle.std.proofs.Common.{◌≡◌, ℕ, ◌<◌, List, [], ◌∷◌, length, drop, set, Some, None, Option, sym, ap, ◌∙◌, inl, inr, arith, get_or-set_other, get_or-set_same}
+use Rattle.std.proofs.Common.{◌≡◌, ℕ, ◌<◌, List, [], ◌∷◌, length, drop, set, Some, None, Option, sym, ap, ◌∙◌, inl, inr, get_or-set_other, get_or-set_same}
 use lib.Seq.{set_out}
 use Rattle.std.proofs.lemmas.Bool.{cases_eq, cases_lt, eq-eqb, ne_eqb, le-ltb}
 use Rattle.model.specs.declared.fault.Refusal.TheVariants.{OtherState, QueueEmpty, OtherFront, QueueFull}

@@ -1,4 +1,3 @@
-mod Places
 mod Blocked
 mod Short
 mod Exact

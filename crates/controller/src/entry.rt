@@ -25,6 +25,15 @@ impl Model for Entry {
     ghost view = { λ e. (e.local, e.queue.items) };
 }
 
+// What a vector of entries holds in its unused places.
+impl Default for Entry {
+    ghost is_default = { λ e. e ≡ (0, []) };
+
+    fn default() -> Entry {
+        Entry::at_start()
+    }
+}
+
 impl Entry {
     // A machine in local state 0 with nothing waiting.
     pub(crate) fn at_start() -> Entry

@@ -8,29 +8,25 @@ ghost use Rattle.controller.specs.Reference.{blocked, taking, outcome, acted, un
 
 use crate::call::Sight;
 use crate::entry::Entry;
+use arrayvec::ArrayVec;
 use model::fault::Refusal;
 use model::rule::{Action, Rule};
 use std::array;
 use std::marker::Model;
 use table::layout::MOST_MACHINES;
 
-// The first `count` entries count. Seen as the state that these stand for. The check's `Held` has such an array too, but
-// of codes, and copies it whole; here one entry is changed where it lies.
+// One entry for each machine. Seen as the state that these stand for.
 #[derive(Drop)]
 pub struct Machines {
-    count: u8,
-    entries: [Entry; MOST_MACHINES],
+    entries: ArrayVec<Entry, MOST_MACHINES>,
 }
 
 impl Model for Machines {
-    ghost use Rattle.std.specs.Prelude.{◌≡◌, ◌≤◌, length, take};
     ghost use Rattle.model.specs.State.{State};
 
     ghost Value = { State };
 
-    ghost view = { λ m. take m.count m.entries };
-
-    ghost invariant = { λ m. (m.count ≤ 6) × (length m.entries ≡ 6) };
+    ghost view = { λ m. m.entries.items };
 }
 
 impl Machines {
@@ -39,45 +35,39 @@ impl Machines {
         requires { count ≤ 6 }
         ensures { result ≡ replicate count (0, []) }
     {
-        Machines {
-            count,
-            entries: array::from_fn(|_| Entry::at_start()),
-        }
+        let mut entries = ArrayVec::from(array::from_fn(|_| Entry::at_start()));
+        entries.truncate(count as usize);
+        Machines { entries }
     }
 
     // Every machine back at the start.
     pub(crate) fn restart(&mut self)
         ensures { self.new ≡ replicate (length self.old) (0, []) }
     {
-        *self = Machines::at_start(self.count);
-    }
-
-    // The entries that count.
-    fn held(&self) -> &[Entry]
-        ensures { result.now ≡ self.now }
-    {
-        &self.entries[..self.count as usize]
+        *self = Machines::at_start(self.entries.len() as u8);
     }
 
     // The local state of a machine; where there is no such machine, 0.
     fn local(&self, machine: u8) -> u8
         ensures { result ≡ local_at self.now machine }
     {
-        self.held().get(machine as usize).map_or(0, Entry::local)
+        self.entries.get(machine as usize).map_or(0, Entry::local)
     }
 
     // The events that wait for a machine; where there is no such machine, none.
     fn events(&self, machine: u8) -> &[u8]
         ensures { result.now ≡ queue_at self.now machine }
     {
-        self.held().get(machine as usize).map_or(&[], Entry::events)
+        self.entries
+            .get(machine as usize)
+            .map_or(&[], Entry::events)
     }
 
     // What a look sees of a machine and a place of its queue, if there is such a machine.
     pub(crate) fn sight(&self, machine: u8, place: u8) -> Option<Sight>
         ensures { result ≡ seen_of self.now machine place }
     {
-        let entry = self.held().get(machine as usize)?;
+        let entry = self.entries.get(machine as usize)?;
         let events = entry.events();
         Some(Sight {
             local: entry.local(),
@@ -111,9 +101,8 @@ impl Machines {
     fn follow(&mut self, rule: Rule)
         ensures { self.new ≡ moved rule (left rule.action (queue_at self.old rule.machine)) self.old }
     {
-        // By its number: `get_mut` says nothing of what its slice ends as, so with it the proof does not close.
-        if rule.machine < self.count {
-            self.entries[rule.machine as usize].follow(rule);
+        if let Some(entry) = self.entries.get_mut(rule.machine as usize) {
+            entry.follow(rule);
         }
     }
 
@@ -122,9 +111,8 @@ impl Machines {
         requires { length (queue_at self.old target) < 32 }
         ensures { self.new ≡ sent event target self.old }
     {
-        // By its number, as in `follow`.
-        if target < self.count {
-            self.entries[target as usize].receive(event);
+        if let Some(entry) = self.entries.get_mut(target as usize) {
+            entry.receive(event);
         }
     }
 
