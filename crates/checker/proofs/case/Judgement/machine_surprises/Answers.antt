@@ -1,5 +1,4 @@
-use Rattle.std.proofs.Common.{refl, arith, below_more}
-use Rattle.std.proofs.lemmas.Bool.Decides.{not_from_Decides}
+use Rattle.std.proofs.Common.{refl, arith}
 use Rattle.closed_sets.specs.Judging.{surprise}
 use Rattle.checker.proofs.case.Judgement.machine_surprises.Goals as goal
 
