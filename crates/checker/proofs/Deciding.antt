@@ -19,14 +19,14 @@ use Rattle.model.specs.declared.rule.Rule.{Rule}
 use Rattle.abstraction.specs.Meaning.{Allowed}
 use Rattle.abstraction.specs.declared.QueueAbstraction as queue_abstraction
 use Rattle.table.proofs.Kept.{all_kept}
-use Rattle.table.proofs.Parts.{machines_long, rules_long, patterns_long, pattern_at}
+use Rattle.table.proofs.Parts.{machines_long, rules_long, lines_long, patterns_long, pattern_at}
 use Rattle.table.specs.Layout.{machines_n, events_n, rules_n, pattern_lines_n, pattern_offset}
 use Rattle.table.specs.Lines.{condition_at}
-use Rattle.table.specs.SystemOf.{system_of, pattern_count, number_of}
+use Rattle.table.specs.SystemOf.{system_of, pattern_lines_of, pattern_count, number_of}
 use Rattle.checker.proofs.Read.{kept_all, record_at_lem}
 use Rattle.checker.specs.Case.{claim, claim_at, table_at, IsSound}
 use Rattle.checker.specs.Held.{record_in}
-use Rattle.checker.specs.Inner.{Judging, Calm, ListedIn, Inside}
+use Rattle.checker.specs.Inner.{Judging, Calm, ListedIn, Inside, Keeps}
 use Rattle.checker.specs.Plan.{no_link}
 use Rattle.checker.specs.SetFile.{records_n, record_at}
 use Rattle.checker.specs.declared.case.Case.{Case}
@@ -59,6 +59,9 @@ module _ {A : Type 0} (j : Judgement A) where
 
   pub pattern_below : {p : ℕ} → p < pattern_count (table_at j) → p < length (system_of (table_at j)).patterns
   pattern_below lt = omega (arith, patterns_long (table_at j), lt)
+
+  pub line_below : {l n : ℕ} → n ≡ length (pattern_lines_of (table_at j)) → l < n → l < pattern_lines_n (table_at j)
+  line_below is lt = omega (arith, lines_long (table_at j), is, lt)
 
   pub rule_in : {r : ℕ} → r < rules_n (table_at j) → RuleOf (system_of (table_at j)) r (rule_of (system_of (table_at j)) r)
   rule_in lt = rule_of_system proper_at (omega (arith, rules_long (table_at j), lt)) refl
@@ -190,10 +193,14 @@ module _ {A : Type 0} (q : queue_abstraction.Ghosts A) (j : Judgement A) (law : 
   abbrev mine : ℕ → Bool
   mine l = eqb (number_of bs l) p
 
-  pub line_from : Applies (claim_at q j) (met j.k p) → (l : ℕ) → l < pattern_lines_n bs → number_of bs l ≡ p → Holds (line l)
+  line_from : Applies (claim_at q j) (met j.k p) → (l : ℕ) → l < pattern_lines_n bs → number_of bs l ≡ p → Holds (line l)
   line_from a l u e =
       let all = subst (MayMeet (claim_at q j) (record_of (claim_at q j) j.k)) (pattern_at bs p lt) (pattern_from law sound (proper_at j) (pattern_below j lt) a) in
       kept_all Holds line mine 0 (pattern_lines_n bs) all l (omega arith) (omega arith) (eq-eqb _ _ e)
+
+  -- a line that does not hold keeps the pattern from being met
+  pub kept_not : {l : ℕ} → l < pattern_lines_n bs → Keeps (claim_at q j) bs j.k p l → Applies (claim_at q j) (met j.k p) → ⊥
+  kept_not {l} below kept a = kept.1 (line_from a l below kept.0)
 
   pub pattern_where : ((l : ℕ) → l < pattern_lines_n bs → number_of bs l ≡ p → Holds (line l)) → Applies (claim_at q j) (met j.k p)
   pattern_where all =
