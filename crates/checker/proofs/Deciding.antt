@@ -9,29 +9,30 @@ use Rattle.std.specs.Result.{is_err}
 use Rattle.model.specs.Bad.{NoTake}
 use Rattle.model.specs.Order.{Order, Nothing, each, one}
 use Rattle.model.specs.Queue.{Over}
-use Rattle.model.specs.System.{System, machines, WellFormed, RuleFits, pattern_of, rule_of}
+use Rattle.model.specs.System.{System, machines, WellFormed, RuleFits, ActionFits, pattern_of, rule_of}
 use Rattle.model.specs.declared.fault.Fault.{Fault}
 use Rattle.model.specs.declared.pattern.Condition.{Condition}
 use Rattle.model.specs.declared.queue.Front.TheVariants.{Event}
 use Rattle.model.specs.declared.rule.Action.{Action}
-use Rattle.model.specs.declared.rule.Action.TheVariants.{Take}
+use Rattle.model.specs.declared.rule.Action.TheVariants.{Take, Send}
 use Rattle.model.specs.declared.rule.Rule.{Rule}
 use Rattle.abstraction.specs.Meaning.{Allowed}
 use Rattle.abstraction.specs.declared.QueueAbstraction as queue_abstraction
 use Rattle.table.proofs.Kept.{all_kept}
-use Rattle.table.proofs.Parts.{machines_long, rules_long, patterns_long, pattern_at}
-use Rattle.table.specs.Layout.{machines_n, rules_n, pattern_lines_n, pattern_offset}
+use Rattle.table.proofs.Parts.{machines_long, rules_long, lines_long, patterns_long, pattern_at}
+use Rattle.table.specs.Layout.{machines_n, events_n, rules_n, pattern_lines_n, pattern_offset}
 use Rattle.table.specs.Lines.{condition_at}
-use Rattle.table.specs.SystemOf.{system_of, pattern_count, number_of}
+use Rattle.table.specs.SystemOf.{system_of, pattern_lines_of, pattern_count, number_of}
 use Rattle.checker.proofs.Read.{kept_all, record_at_lem}
 use Rattle.checker.specs.Case.{claim, claim_at, table_at, IsSound}
 use Rattle.checker.specs.Held.{record_in}
-use Rattle.checker.specs.Inner.{Judging, Calm, ListedIn, Enabled, Inside}
+use Rattle.checker.specs.Inner.{Judging, Calm, ListedIn, Inside, Keeps}
 use Rattle.checker.specs.Plan.{no_link}
 use Rattle.checker.specs.SetFile.{records_n, record_at}
 use Rattle.checker.specs.declared.case.Case.{Case}
 use Rattle.checker.specs.declared.case.Judgement.{Judgement}
 use Rattle.checker.specs.declared.held.Held.{Held}
+use Rattle.checker.specs.declared.step.Step.{Step}
 use Rattle.closed_sets.proofs.Lets.{surprise_lets, pattern_lets}
 use Rattle.closed_sets.proofs.Outside.{outside_lets, outside_not}
 use Rattle.closed_sets.specs.Codes.{MaySurprise, MayHold, MayMeet, Leads}
@@ -59,6 +60,9 @@ module _ {A : Type 0} (j : Judgement A) where
   pub pattern_below : {p : ℕ} → p < pattern_count (table_at j) → p < length (system_of (table_at j)).patterns
   pattern_below lt = omega (arith, patterns_long (table_at j), lt)
 
+  pub line_below : {l n : ℕ} → n ≡ length (pattern_lines_of (table_at j)) → l < n → l < pattern_lines_n (table_at j)
+  line_below is lt = omega (arith, lines_long (table_at j), is, lt)
+
   pub rule_in : {r : ℕ} → r < rules_n (table_at j) → RuleOf (system_of (table_at j)) r (rule_of (system_of (table_at j)) r)
   rule_in lt = rule_of_system proper_at (omega (arith, rules_long (table_at j), lt)) refl
 
@@ -84,9 +88,6 @@ module _ {T : Claim} {n k : ℕ} {h : Held} (j : Judging T n k h) where
 
   pub entry_code : (i : ℕ) {l c : ℕ} → (l, c) ≡ get_or (record_in h) i (0, 0) → c ≡ code_in (record_of T k) i
   entry_code i q = ap (λ (x : ℕ × ℕ). x.1) (entry_is i q)
-
-  pub enabled_at : {r : ℕ} {x : Rule} {a : Action} {l d : ℕ} → RuleOf T.system r x → (l, d) ≡ get_or (record_in h) x.machine (0, 0) → l ≡ x.from → x.action ≡ a → Enabled T k r x a
-  enabled_at at q from action = record { below = at.below; is = at.is; action = action; from = sym (entry_local _ q) ∙ from }
 
 module _ {T : Claim} (law : Means T) {n k : ℕ} {h : Held} (j : Judging T n k h) where
   module _ {i l c : ℕ} (q : (l, c) ≡ get_or (record_in h) i (0, 0)) (lt : i < machines T.system) where
@@ -146,20 +147,37 @@ module _ {T : Claim} (law : Means T) {n k : ℕ} {h : Held} (j : Judging T n k h
       out_not a e c q l there ap =
           (outside_lets T law (record_of T k) j.sound x at.fits c q from (subst (λ (b : Action). Leads T x b (record_of T k) c q) (sym e) l)).1 (leaves c ap) there
 
-  module _ (proper : WellFormed T.system) {r : ℕ} {x : Rule} {a : Action} (on : Enabled T k r x a) where
-    at : RuleOf T.system r x
-    at = rule_of_system proper on.below on.is
+-- what a step knows of its rule, and what is answered of where it leads
+module _ {A : Type 0} (s : Step A) where
+  pub rule_of_step : RuleOf (system_of (table_at s.judgement.now)) s.r s.rule
+  rule_of_step = rule_of_system (proper_at s.judgement.now) (omega (arith, rules_long (table_at s.judgement.now), s.enabled.below)) s.enabled.is
 
-    pub take_other : (v u c d : ℕ) → a ≡ Take v → slice_get (T.removals T.system.events (code_in (record_of T k) x.machine)) c ≡ Some (u, d) → (u ≡ v → ⊥) → Applies T (outside k r c) → ⊥
-    take_other v u c d e is ne o =
-        let l = subst (λ (b : Action). (q : Record) × Leads T x b (record_of T k) c q) (on.action ∙ e) (outside_not T law (record_of T k) j.sound x at.fits c (leaves at c o)).1 in
+  -- a machine that is sent to is there, and so is the event
+  pub sends_there : {e d : ℕ} → s.rule.action ≡ Send e d → (e < events_n (table_at s.judgement.now)) × (d < machines_n (table_at s.judgement.now))
+  sends_there is =
+      let fits = subst (ActionFits (system_of (table_at s.judgement.now))) is rule_of_step.fits.action in
+      (fits.0, omega (arith, fits.1, machines_long (table_at s.judgement.now)))
+
+  module _ (q : queue_abstraction.Ghosts A) (law : Means (claim_at q s.judgement.now)) (sound : IsSound q s.judgement.now) where
+    abbrev T : Claim
+    T = claim_at q s.judgement.now
+
+    abbrev k : ℕ
+    k = s.judgement.now.k
+
+    from : local_in (record_of T k) s.rule.machine ≡ s.rule.from
+    from = ap (λ (z : Record). local_in z s.rule.machine) (sym sound.is) ∙ s.enabled.from
+
+    pub take_other : (v u c d : ℕ) → s.rule.action ≡ Take v → slice_get (T.removals T.system.events (code_in (record_of T k) s.rule.machine)) c ≡ Some (u, d) → (u ≡ v → ⊥) → Applies T (outside k s.r c) → ⊥
+    take_other v u c d action is ne o =
+        let l = subst (λ (b : Action). (q : Record) × Leads T s.rule b (record_of T k) c q) action (outside_not T law (record_of T k) sound.sound s.rule rule_of_step.fits c (leaves law sound rule_of_step c o)).1 in
         ne (ap (λ (z : ℕ × ℕ). z.0) (same_Some (u, d) (v, l.1.0) (sym is ∙ l.1.1)))
 
-    pub judged_inside : (c : ℕ) {q u : Record} {rs : List Record} (res : Result (Unit {0}) Fault) → Leads T x a (record_of T k) c q → rs ≡ T.records → u ≡ q → Inside rs u k r c res → Judged T (one (outside k r c)) res
-    judged_inside c {q} {u} (Ok v) l e f i =
-        out_not at on.from a on.action c q l (subst (Listed T) f (subst (λ (z : List Record). ListedIn z u) e i))
-    judged_inside c {q} {u} (Err g) l e f i =
-        record { finding = outside k r c; numbered = i.0; first = (refl, out_if at on.from a on.action c q l (λ there. i.1 (subst (λ (z : List Record). ListedIn z u) (sym e) (subst (Listed T) (sym f) there)))) }
+    pub judged_inside : {a : Action} → s.rule.action ≡ a → (c : ℕ) {q u : Record} {rs : List Record} (res : Result (Unit {0}) Fault) → Leads T s.rule a (record_of T k) c q → rs ≡ T.records → u ≡ q → Inside rs u k s.r c res → Judged T (one (outside k s.r c)) res
+    judged_inside {a} action c {q} {u} (Ok v) l e f i =
+        out_not law sound rule_of_step from a action c q l (subst (Listed T) f (subst (λ (z : List Record). ListedIn z u) e i))
+    judged_inside {a} action c {q} {u} (Err g) l e f i =
+        record { finding = outside k s.r c; numbered = i.0; first = (refl, out_if law sound rule_of_step from a action c q l (λ there. i.1 (subst (λ (z : List Record). ListedIn z u) (sym e) (subst (Listed T) (sym f) there)))) }
 
 -- a pattern of a judgement's table may be met just where each of its lines may hold
 module _ {A : Type 0} (q : queue_abstraction.Ghosts A) (j : Judgement A) (law : Means (claim_at q j)) (sound : IsSound q j) {p : ℕ} (lt : p < pattern_count (table_at j)) where
@@ -175,10 +193,14 @@ module _ {A : Type 0} (q : queue_abstraction.Ghosts A) (j : Judgement A) (law : 
   abbrev mine : ℕ → Bool
   mine l = eqb (number_of bs l) p
 
-  pub line_from : Applies (claim_at q j) (met j.k p) → (l : ℕ) → l < pattern_lines_n bs → number_of bs l ≡ p → Holds (line l)
+  line_from : Applies (claim_at q j) (met j.k p) → (l : ℕ) → l < pattern_lines_n bs → number_of bs l ≡ p → Holds (line l)
   line_from a l u e =
       let all = subst (MayMeet (claim_at q j) (record_of (claim_at q j) j.k)) (pattern_at bs p lt) (pattern_from law sound (proper_at j) (pattern_below j lt) a) in
       kept_all Holds line mine 0 (pattern_lines_n bs) all l (omega arith) (omega arith) (eq-eqb _ _ e)
+
+  -- a line that does not hold keeps the pattern from being met
+  pub kept_not : {l : ℕ} → l < pattern_lines_n bs → Keeps (claim_at q j) bs j.k p l → Applies (claim_at q j) (met j.k p) → ⊥
+  kept_not {l} below kept a = kept.1 (line_from a l below kept.0)
 
   pub pattern_where : ((l : ℕ) → l < pattern_lines_n bs → number_of bs l ≡ p → Holds (line l)) → Applies (claim_at q j) (met j.k p)
   pattern_where all =

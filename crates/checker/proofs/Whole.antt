@@ -1,5 +1,5 @@
 -- From the parts of a check to its verdict. Assumes nothing.
-use Rattle.std.proofs.Common.{◌≡◌, ℕ, ◌+◌, ◌-◌, ◌*◌, ◌≤◌, List, length, IfOk, Ok, Err, Result, subst, inl, inr, arith, MatchResult}
+use Rattle.std.proofs.Common.{◌≡◌, ℕ, ◌+◌, ◌-◌, ◌*◌, ◌≤◌, List, length, IfOk, Ok, Err, Result, subst, subst₂, inl, inr, arith, MatchResult}
 use Rattle.std.proofs.lemmas.Bool.{cases_lt}
 use Rattle.model.specs.declared.fault.Fault.{Fault}
 use Rattle.model.specs.State.{start}
@@ -15,15 +15,22 @@ use Rattle.closed_sets.specs.Records.{Claim, Closed, Represented}
 use Rattle.closed_sets.specs.Judging as judging
 use Rattle.closed_sets.specs.Theorems.{Means, SoundAll}
 use Rattle.closed_sets.proofs.Closure.{found_nothing, closed_nothing, closed_holds}
+use Rattle.checker.specs.Case.{claim}
 use Rattle.checker.specs.Inner.{Formed}
 use Rattle.checker.specs.Promise.{GoodForm, Passes, Safe}
 use Rattle.checker.specs.Ready.{Ready}
 use Rattle.checker.specs.SetFile.{claim_of, records_n, record_byte, Before, SetReady}
+use Rattle.checker.specs.declared.case.Case.{Case}
 use Rattle.checker.specs.Verdict.{Finding, in_table, in_header, in_record, HeaderApplies, header_order, Applies, numbers, form_of, form_order, table_order, order}
 
 -- what a set file claims of a table file, under an abstraction
 abbrev pub claimed : {A : Type 0} → queue_abstraction.Ghosts A → A → List ℕ → List ℕ → Claim
 claimed q p table set = claim_of table set (q.bits p) (q.code p) (q.removals p)
+
+-- what holds of a case holds of the files and the abstraction that it was made of
+pub of_files : {A : Type 0} (q : queue_abstraction.Ghosts A) (c : Case A) {p : A} {bs s : List ℕ} → c.table.view.bytes.now ≡ bs → c.set.bytes.now ≡ s → c.abstraction.now ≡ p → (P : List ℕ → List ℕ → Claim → Type 0) → P c.table.view.bytes.now c.set.bytes.now (claim q c) → P bs s (claimed q p bs s)
+of_files {A} q c {p} {bs} {s} table set abstraction P h =
+    subst (λ (z : A). P bs s (claimed q z bs s)) abstraction (subst₂ (λ b o. P b o (claimed q c.abstraction.now b o)) table set h)
 
 pub reads_ready : (bs : List ℕ) → Reads bs → Ready bs
 reads_ready bs r = record {

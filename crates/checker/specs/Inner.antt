@@ -1,14 +1,13 @@
 -- What the inner functions of the check are told and answer. Assumes nothing.
 use Rattle.std.specs.Prelude.{◌≡◌, ℕ, ◌+◌, ◌*◌, ◌<◌, List, [], length, Some, None, Ok, Err, Option, Result, slice_index_or}
 use Rattle.model.specs.declared.fault.Fault.{Fault}
-use Rattle.model.specs.declared.rule.Action.{Action}
 use Rattle.model.specs.declared.rule.Rule.{Rule}
 use Rattle.model.specs.System.{rule_of, machines as machines_of}
 use Rattle.closed_sets.specs.Records.{Claim, Record, record_of, local_in, Sound}
 use Rattle.closed_sets.specs.Codes.{MaySurprise, MayHold}
-use Rattle.table.specs.Layout.{pattern_offset}
+use Rattle.table.specs.Layout.{machines_n, rules_n, pattern_offset}
 use Rattle.table.specs.Lines.{pattern_line_at}
-use Rattle.table.specs.SystemOf.{number_of}
+use Rattle.table.specs.SystemOf.{system_of, number_of}
 use Rattle.closed_sets.specs.Judging.{numbers, outside}
 use Rattle.checker.specs.declared.held.Held.{Held}
 use Rattle.checker.specs.Held.{record_in}
@@ -33,12 +32,12 @@ abbrev pub Found : List Record → Record → Option ℕ → Type 0
 Found rs r None = ListedIn rs r → ⊥
 Found rs r (Some k) = (k < length rs) × (slice_index_or rs k [] ≡ r)
 
--- x is rule r, its action is a, and its machine is in the local state that it leads from
-pub record Enabled (T : Claim) (k r : ℕ) (x : Rule) (a : Action) : Type 0 where
-  pub below : r < length T.system.rules
-  pub is : x ≡ rule_of T.system r
-  pub action : x.action ≡ a
-  pub from : local_in (record_of T k) x.machine ≡ x.from
+-- x is rule r of the table, which has it and its machine, and that machine is held in the local state that it leads from
+pub record Enabled (bs : List ℕ) (h : Held) (r : ℕ) (x : Rule) : Type 0 where
+  pub below : r < rules_n bs
+  pub is : x ≡ rule_of (system_of bs) r
+  pub machine : x.machine < machines_n bs
+  pub from : local_in (record_in h) x.machine ≡ x.from
 
 -- what is answered of outcome c of rule r, which leads from record k to record u
 abbrev pub Inside : List Record → Record → ℕ → ℕ → ℕ → Result (Unit {0}) Fault → Type 0

@@ -3,8 +3,8 @@ pub mod Ready
 pub mod Held
 pub mod Hints
 pub mod Plan
-pub mod Props
 pub mod Inner
+pub mod Props
 pub mod Case
 pub mod Verdict
 pub mod Promise

@@ -13,9 +13,11 @@ use Rattle.model.specs.declared.queue.Front.TheVariants.{Any, Empty, Event}
 use Rattle.model.specs.declared.rule.Action.{Action}
 use Rattle.model.specs.declared.rule.Action.TheVariants.{Local, Take, Send}
 use Rattle.model.specs.declared.rule.Rule.{Rule}
+use Rattle.checker.specs.Inner.{Enabled}
 use Rattle.checker.specs.Plan.{FirstFrom, Planned}
 use Rattle.checker.specs.Ready.{Ready}
 use Rattle.checker.specs.SetFile.{Before, SetReady}
+use Rattle.checker.specs.declared.held.Held.{Held}
 use Rattle.checker.specs.declared.plan.Plan.{Plan}
 
 pub action_prop : (S : System) (a : Action) → IsProp (ActionFits S a)
@@ -86,3 +88,6 @@ first_from_prop bs x a (Some j) =
 
 pub planned_prop : (bs : List ℕ) (p : Plan) → IsProp (Planned bs p)
 planned_prop bs p = Prim.hlevel (props, le_prop, first_from_prop)
+
+pub enabled_prop : (bs : List ℕ) (h : Held) (r : ℕ) (x : Rule) → IsProp (Enabled bs h r x)
+enabled_prop bs h r x = Prim.hlevel (props, le_prop)

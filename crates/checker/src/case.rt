@@ -8,6 +8,7 @@ use crate::held::Held;
 use crate::parts::ReadTable;
 use crate::plan::Plan;
 use crate::state_set::StateSet;
+use table::view::Table;
 
 // A table that reads, a set and an abstraction.
 #[derive(Drop)]
@@ -15,6 +16,25 @@ pub(crate) struct Case<'t, 'a, A> {
     pub(crate) table: ReadTable<'t>,
     pub(crate) set: StateSet<'a>,
     pub(crate) abstraction: &'a A,
+}
+
+impl<'t, 'a, A> Case<'t, 'a, A> {
+    ghost use Rattle.std.specs.Prelude.{◌≡◌};
+    ghost use Rattle.table.specs.Reading.{Reads};
+
+    // The case of a table that reads.
+    pub(crate) fn over(view: Table<'t>, set: StateSet<'a>, abstraction: &'a A) -> Case<'t, 'a, A>
+        requires { Reads view.bytes.now }
+        ensures table { result.table.view.bytes.now ≡ view.entry.bytes.now }
+        ensures set { result.set.bytes.now ≡ set.entry.bytes.now }
+        ensures abstraction { result.abstraction.now ≡ abstraction.now }
+    {
+        Case {
+            table: ReadTable { view },
+            set,
+            abstraction,
+        }
+    }
 }
 
 // A case whose set is as long as it says and has records that rise, and the plan of its table.

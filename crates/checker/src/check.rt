@@ -8,7 +8,6 @@ ghost use Rattle.checker.specs.SetFile.{claim_of, SetReady};
 ghost use Rattle.checker.specs.Verdict.{closed_order, set_order};
 
 use crate::case::{Case, Judge};
-use crate::parts::ReadTable;
 use crate::pass::{FULL_CAPACITY, Pass};
 use crate::plan::Plan;
 use crate::state_set::StateSet;
@@ -55,14 +54,7 @@ pub fn check<'a, A: QueueAbstraction>(
     ensures { Checked table.now set.now (claim_of table.now set.now (A.bits abstraction.now) (A.code abstraction.now) (A.removals abstraction.now)) result }
 {
     let view = Table::read(table)?;
-    // written out here and in `read_set`: a constructor would take these three and save one line
-    let table = ReadTable { view };
-    let case = Case {
-        table,
-        set: StateSet::over(set),
-        abstraction,
-    };
-    case.check_set()?;
+    Case::over(view, StateSet::over(set), abstraction).check_set()?;
     Ok(Pass {
         table: view,
         capacity: FULL_CAPACITY,
@@ -79,12 +71,6 @@ pub fn read_set<'a, A: QueueAbstraction>(
 {
     let view = Table::read(table)?;
     let states = StateSet::over(set);
-    let table = ReadTable { view };
-    let case = Case {
-        table,
-        set: states,
-        abstraction,
-    };
-    case.check_form()?;
+    Case::over(view, states, abstraction).check_form()?;
     Ok(states)
 }

@@ -57,8 +57,8 @@ impl<A: QueueAbstraction> Case<'_, '_, A> {
             return Err(fault_at(Refusal::SetLength, 0));
         }
         self.check_header_fields()?;
-        let record_length = ENTRY_LENGTH * self.table.machines() as usize;
-        if bytes.len() != HEADER_LENGTH + record_length * self.set.record_count() as usize {
+        let record_length = ENTRY_LENGTH * usize::from(self.table.machines());
+        if bytes.len() != HEADER_LENGTH + record_length * usize::from(self.set.record_count()) {
             return Err(fault_at(Refusal::SetLength, 0));
         }
         Ok(())
@@ -80,13 +80,12 @@ impl<A: QueueAbstraction> Case<'_, '_, A> {
         requires sized { length (record_in held.now) ≡ machines_n self.now.table.view.bytes.now }
         ensures { Decides result (Sound (claim A.QueueAbstraction self.now) (record_of (claim A.QueueAbstraction self.now) k)) }
     {
-        // by number, which also says how many local states the machine has
-        for i in 0..held.machines {
-            if !self.entry_sound(i, held.entry(i)) {
-                return false;
-            }
-        }
-        true
+        (0..held.machines).all(
+            |i|
+                requires held { i < held.now.machines }
+                requires below { i < machines_n self.now.table.view.bytes.now }
+            { self.entry_sound(i, held.entry(i)) },
+        )
     }
 
     // The first thing wrong with the form of record `k`.
@@ -98,13 +97,13 @@ impl<A: QueueAbstraction> Case<'_, '_, A> {
     {
         let held = self.set.record(self.table.machines(), k);
         if !self.is_sound(k, &held) {
-            return Err(fault_at(Refusal::RecordParts, k as u32));
+            return Err(fault_at(Refusal::RecordParts, u32::from(k)));
         }
         if k == 0 {
             return Ok(());
         }
         if !self.set.stands_above(k, &held) {
-            return Err(fault_at(Refusal::RecordOrder, k as u32));
+            return Err(fault_at(Refusal::RecordOrder, u32::from(k)));
         }
         Ok(())
     }

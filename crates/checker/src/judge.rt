@@ -18,7 +18,7 @@ impl<A: QueueAbstraction> Judgement<'_, '_, A> {
     {
         Fault {
             number,
-            a: self.k as u32,
+            a: u32::from(self.k),
             b,
             c,
         }

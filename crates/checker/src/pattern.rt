@@ -47,7 +47,7 @@ impl<A: QueueAbstraction> Judgement<'_, '_, A> {
         ensures { MatchBool result (Keeps (claim_at A.QueueAbstraction self.now) (table_at self.now) self.now.k n l) (number_of (table_at self.now) l ≡ n → MayHold (claim_at A.QueueAbstraction self.now) (record_of (claim_at A.QueueAbstraction self.now) self.now.k) (pattern_line_at (table_at self.now) (pattern_offset (table_at self.now) l)).condition) }
     {
         let line = self.judge.plan.line(l);
-        if line.number as u16 != n {
+        if u16::from(line.number) != n {
             return false;
         }
         !self.lets_hold(line.condition)
@@ -63,13 +63,12 @@ impl<A: QueueAbstraction> Judgement<'_, '_, A> {
         if first < count && self.keeps(n, first) {
             return Some(first);
         }
-        // by number, which is the hint
-        for l in 0..count {
-            if self.keeps(n, l) {
-                return Some(l);
-            }
-        }
-        None
+        (0..count).find(
+            |&l|
+                requires sound { IsSound A.QueueAbstraction self.now }
+                requires below { l < pattern_lines_n (table_at self.now) }
+            { self.keeps(n, l) },
+        )
     }
 
     // Whether the record lets pattern `n` be met. A line that keeps it from being met is asked first next time.

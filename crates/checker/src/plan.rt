@@ -15,10 +15,10 @@ use model::rule::{Action, Rule};
 use table::layout::{MOST_LOCAL_STATES, MOST_PATTERN_LINES, MOST_RULES};
 use table::line::PatternLine;
 
-// The pairs of a machine and a local state, and those with an event.
-// the next power of two above the most machines
+// The next power of two above the most machines, so that a cell is found by `%`, which a compiler turns into a mask.
 const MACHINES: u8 = 8;
 
+// The pairs of a machine and a local state, and those with an event.
 const CELLS: usize = MACHINES as usize * MOST_LOCAL_STATES as usize;
 
 const TAKER_CELLS: usize = MOST_EVENTS as usize * CELLS;
@@ -191,10 +191,11 @@ impl Plan {
         requires { Planned table.now.view.bytes.now self.now }
         ensures { result ≡ true → NoTake (system_of table.now.view.bytes.now) machine local event → ⊥ }
     {
-        // a match: under `is_some_and` the proof was not found
-        match self.takers[taker_cell(machine, local, event)] {
-            Some(r) => takes(self.rule(r), machine, local, event),
-            None => false,
-        }
+        self.takers[taker_cell(machine, local, event)].is_some_and(|r| takes(
+            self.rule(r),
+            machine,
+            local,
+            event,
+        ))
     }
 }

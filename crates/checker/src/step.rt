@@ -12,6 +12,7 @@ ghost use Rattle.closed_sets.specs.Codes.{moved_in};
 ghost use Rattle.checker.specs.Case.{claim_at, table_at, set_at, IsSound, Finds};
 ghost use Rattle.checker.specs.Held.{record_in};
 ghost use Rattle.checker.specs.Inner.{Enabled, Inside};
+ghost use Rattle.checker.specs.Props.{enabled_prop};
 ghost use Rattle.checker.specs.SetFile.{records_of};
 
 use crate::case::Judgement;
@@ -22,51 +23,52 @@ use abstraction::removals::each_removal;
 use model::fault::{Fault, Refusal};
 use model::rule::{Action, Rule};
 
-// A rule of the table, by its number.
-#[derive(Clone, Copy)]
-struct Numbered {
+// A rule of the table, by its number, that leads on from a record: its machine is in the local state that it leads from.
+#[derive(Drop)]
+struct Step<'j, 't, 'a, A> {
+    judgement: &'j Judgement<'t, 'a, A>,
     r: u16,
     rule: Rule,
+    ghost enabled: { Enabled judgement.now.judge.now.case.now.table.view.bytes.now judgement.now.held r rule } by { enabled_prop judgement.now.judge.now.case.now.table.view.bytes.now judgement.now.held r rule },
 }
 
-impl<A: QueueAbstraction> Judgement<'_, '_, A> {
-    // Whether the record that outcome `c` of rule `r` leads to stands in the set.
-    fn inside(&self, hints: &mut Hints, r: u16, c: u64, target: &Held) -> Result<(), Fault>
-        requires { target.now.machines ≡ machines_n (table_at self.now) }
-        ensures { Inside (records_of (machines_n (table_at self.now)) (set_at self.now)) (record_in target.now) self.now.k r c result }
+impl<A: QueueAbstraction> Step<'_, '_, '_, A> {
+    // Whether the record that outcome `c` leads to stands in the set.
+    fn inside(&self, hints: &mut Hints, c: u64, target: &Held) -> Result<(), Fault>
+        requires { target.now.machines ≡ machines_n (table_at self.now.judgement.now) }
+        ensures { Inside (records_of (machines_n (table_at self.now.judgement.now)) (set_at self.now.judgement.now)) (record_in target.now) self.now.judgement.now.k self.now.r c result }
     {
-        let near = hints.place(self.k, r, c);
-        let found = self.judge.case.set.find(target, near);
-        let place = found.ok_or(self.fault(Refusal::StepOutside, r, c))?;
-        hints.found(self.k, r, c, place);
+        let from = self.judgement;
+        let near = hints.place(from.k, self.r, c);
+        let found = from.judge.case.set.find(target, near);
+        let place = found.ok_or(from.fault(Refusal::StepOutside, self.r, c))?;
+        hints.found(from.k, self.r, c, place);
         Ok(())
     }
 
-    // The record that a rule leads to, with that code of its own queue.
-    fn moved(&self, mover: Rule, code: u64) -> Held
-        requires sound { IsSound A.QueueAbstraction self.now }
-        requires below { mover.machine < machines_n (table_at self.now) }
-        ensures is { record_in result ≡ moved_in mover code (record_of (claim_at A.QueueAbstraction self.now) self.now.k) }
-        ensures machines { result.machines ≡ machines_n (table_at self.now) }
+    // The record that the rule leads to, with that code of its own queue.
+    fn moved(&self, code: u64) -> Held
+        requires { IsSound A.QueueAbstraction self.now.judgement.now }
+        ensures is { record_in result ≡ moved_in self.now.rule code (record_of (claim_at A.QueueAbstraction self.now.judgement.now) self.now.judgement.now.k) }
+        ensures machines { result.machines ≡ machines_n (table_at self.now.judgement.now) }
     {
-        self.held.with(
-            mover.machine,
+        self.judgement.held.with(
+            self.rule.machine,
             Entry {
-                local: mover.to,
+                local: self.rule.to,
                 code,
             },
         )
     }
 
     // A local move leads to a record of the set.
-    fn check_local(&self, hints: &mut Hints, mover: Numbered) -> Result<(), Fault>
-        requires sound { IsSound A.QueueAbstraction self.now }
-        requires enabled { Enabled (claim_at A.QueueAbstraction self.now) self.now.k mover.r mover.rule Local }
-        requires below { mover.rule.machine < machines_n (table_at self.now) }
-        ensures { Finds A.QueueAbstraction self.now (one (outside self.now.k mover.r 0)) result }
+    fn check_local(&self, hints: &mut Hints) -> Result<(), Fault>
+        requires sound { IsSound A.QueueAbstraction self.now.judgement.now }
+        requires action { self.now.rule.action ≡ Local }
+        ensures { Finds A.QueueAbstraction self.now.judgement.now (one (outside self.now.judgement.now.k self.now.r 0)) result }
     {
-        let own = self.held.entry(mover.rule.machine);
-        self.inside(hints, mover.r, 0, &self.moved(mover.rule, own.code))
+        let own = self.judgement.held.entry(self.rule.machine);
+        self.inside(hints, 0, &self.moved(own.code))
     }
 
     // Removal `c` of a take leads to a record of the set, if it takes the rule's event. What it is judged by comes from the
@@ -74,65 +76,53 @@ impl<A: QueueAbstraction> Judgement<'_, '_, A> {
     fn take_inside(
         &self,
         hints: &mut Hints,
-        taker: Numbered,
         event: u8,
         c: u64,
         removal: (u8, u64),
     ) -> Result<(), Fault>
-        requires sound { IsSound A.QueueAbstraction self.now }
-        requires enabled { Enabled (claim_at A.QueueAbstraction self.now) self.now.k taker.r taker.rule (Take event) }
-        requires below { taker.rule.machine < machines_n (table_at self.now) }
-        requires removal { slice_get (A.removals self.now.judge.now.case.now.abstraction.now (events_n (table_at self.now)) (code_in (record_of (claim_at A.QueueAbstraction self.now) self.now.k) taker.rule.machine)) c ≡ Some removal }
-        ensures { Finds A.QueueAbstraction self.now (one (outside self.now.k taker.r c)) result }
+        requires sound { IsSound A.QueueAbstraction self.now.judgement.now }
+        requires action { self.now.rule.action ≡ Take event }
+        requires removal { slice_get (A.removals self.now.judgement.now.judge.now.case.now.abstraction.now (events_n (table_at self.now.judgement.now)) (code_in (record_of (claim_at A.QueueAbstraction self.now.judgement.now) self.now.judgement.now.k) self.now.rule.machine)) c ≡ Some removal }
+        ensures { Finds A.QueueAbstraction self.now.judgement.now (one (outside self.now.judgement.now.k self.now.r c)) result }
     {
         let (taken, left) = removal;
         if taken != event {
             return Ok(());
         }
-        self.inside(hints, taker.r, c, &self.moved(taker.rule, left))
+        self.inside(hints, c, &self.moved(left))
     }
 
     // The first removal by which a take leads outside.
-    fn check_take(&self, hints: &mut Hints, taker: Numbered, event: u8) -> Result<(), Fault>
-        requires sound { IsSound A.QueueAbstraction self.now }
-        requires enabled { Enabled (claim_at A.QueueAbstraction self.now) self.now.k taker.r taker.rule (Take event) }
-        requires below { taker.rule.machine < machines_n (table_at self.now) }
-        ensures { Finds A.QueueAbstraction self.now (each (length (A.removals self.now.judge.now.case.now.abstraction.now (events_n (table_at self.now)) (code_in (record_of (claim_at A.QueueAbstraction self.now) self.now.k) taker.rule.machine))) (λ c. one (outside self.now.k taker.r c))) result }
+    fn check_take(&self, hints: &mut Hints, event: u8) -> Result<(), Fault>
+        requires sound { IsSound A.QueueAbstraction self.now.judgement.now }
+        requires action { self.now.rule.action ≡ Take event }
+        ensures { Finds A.QueueAbstraction self.now.judgement.now (each (length (A.removals self.now.judgement.now.judge.now.case.now.abstraction.now (events_n (table_at self.now.judgement.now)) (code_in (record_of (claim_at A.QueueAbstraction self.now.judgement.now) self.now.judgement.now.k) self.now.rule.machine))) (λ c. one (outside self.now.judgement.now.k self.now.r c))) result }
     {
-        let case = self.judge.case;
+        let case = self.judgement.judge.case;
         let m = case.table.events();
-        let own = self.held.entry(taker.rule.machine);
+        let own = self.judgement.held.entry(self.rule.machine);
         for (c, removal) in each_removal(case.abstraction, m, own.code).enumerate() {
-            self.take_inside(hints, taker, event, c as u64, removal)?;
+            self.take_inside(hints, event, c as u64, removal)?;
         }
         Ok(())
     }
 
     // A send leads to a record of the set.
-    fn check_send(
-        &self,
-        hints: &mut Hints,
-        sender: Numbered,
-        event: u8,
-        target: u8,
-    ) -> Result<(), Fault>
-        requires sound { IsSound A.QueueAbstraction self.now }
-        requires enabled { Enabled (claim_at A.QueueAbstraction self.now) self.now.k sender.r sender.rule (Send event target) }
-        requires below { sender.rule.machine < machines_n (table_at self.now) }
-        requires there { target < machines_n (table_at self.now) }
-        requires named { event < events_n (table_at self.now) }
-        ensures { Finds A.QueueAbstraction self.now (one (outside self.now.k sender.r 0)) result }
+    fn check_send(&self, hints: &mut Hints, event: u8, target: u8) -> Result<(), Fault>
+        requires sound { IsSound A.QueueAbstraction self.now.judgement.now }
+        requires action { self.now.rule.action ≡ Send event target }
+        ensures { Finds A.QueueAbstraction self.now.judgement.now (one (outside self.now.judgement.now.k self.now.r 0)) result }
     {
-        let case = self.judge.case;
-        let own = self.held.entry(sender.rule.machine);
-        let there = self.held.entry(target);
+        let case = self.judgement.judge.case;
+        let own = self.judgement.held.entry(self.rule.machine);
+        let there = self.judgement.held.entry(target);
         let Some(longer) = case
             .abstraction
             .append(case.table.events(), there.code, event)
         else {
             return Ok(());
         };
-        let next = self.moved(sender.rule, own.code);
+        let next = self.moved(own.code);
         let local = next.entry(target).local;
         let sent = next.with(
             target,
@@ -141,9 +131,24 @@ impl<A: QueueAbstraction> Judgement<'_, '_, A> {
                 code: longer,
             },
         );
-        self.inside(hints, sender.r, 0, &sent)
+        self.inside(hints, 0, &sent)
     }
 
+    // The first outcome by which the rule leads outside.
+    fn check(&self, hints: &mut Hints) -> Result<(), Fault>
+        requires { IsSound A.QueueAbstraction self.now.judgement.now }
+        ensures { Finds A.QueueAbstraction self.now.judgement.now (outcomes_of (claim_at A.QueueAbstraction self.now.judgement.now) self.now.judgement.now.k self.now.r) result }
+    {
+        // a rule is an enum of actions, each with its own numbers
+        match self.rule.action {
+            Action::Local => self.check_local(hints),
+            Action::Take { event } => self.check_take(hints, event),
+            Action::Send { event, target } => self.check_send(hints, event, target),
+        }
+    }
+}
+
+impl<A: QueueAbstraction> Judgement<'_, '_, A> {
     // The first outcome by which rule `r` leads outside.
     fn check_rule(&self, hints: &mut Hints, r: u16) -> Result<(), Fault>
         requires sound { IsSound A.QueueAbstraction self.now }
@@ -155,13 +160,12 @@ impl<A: QueueAbstraction> Judgement<'_, '_, A> {
         if own.local != rule.from {
             return Ok(());
         }
-        let stepper = Numbered { r, rule };
-        // a rule is an enum of actions, each with its own numbers
-        match rule.action {
-            Action::Local => self.check_local(hints, stepper),
-            Action::Take { event } => self.check_take(hints, stepper, event),
-            Action::Send { event, target } => self.check_send(hints, stepper, event, target),
-        }
+        let step = Step {
+            judgement: self,
+            r,
+            rule,
+        };
+        step.check(hints)
     }
 
     // Whether every rule of machine `i` leads to records of the set.

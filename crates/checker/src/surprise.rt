@@ -42,7 +42,7 @@ impl<A: QueueAbstraction> Judgement<'_, '_, A> {
     {
         for e in 0..self.judge.case.table.events() {
             if self.lets_surprise(i, e) {
-                return Err(self.fault(Refusal::Surprise, i as u16, e as u64));
+                return Err(self.fault(Refusal::Surprise, u16::from(i), u64::from(e)));
             }
         }
         Ok(())

@@ -19,7 +19,7 @@ is_sound-requires g c =
     }
 
 pub returns-then-not-is_sound : goal.returns-then-not-is_sound
-returns-then-not-is_sound g c = record { finding = record_parts c.args.k; numbered = c.fault_at.ensures; first = inl (refl, not_from_Decides _ c.is_sound.ensures c.if-not-is_sound.true) }
+returns-then-not-is_sound g c = record { finding = record_parts c.args.k; numbered = rw c.from.ensures at c.fault_at.ensures; first = inl (refl, not_from_Decides _ c.is_sound.ensures c.if-not-is_sound.true) }
 
 pub returns-then-not-stands_above : goal.returns-then-not-stands_above
 returns-then-not-stands_above g c =
@@ -29,7 +29,7 @@ returns-then-not-stands_above g c =
     let k = c.args.k in
     record {
       finding = record_order k;
-      numbered = c.fault_at-then-not-stands_above.ensures;
+      numbered = rw c.from-then-not-stands_above.ensures at c.fault_at-then-not-stands_above.ensures;
       first =
           inr (
             (λ no. no (c.is_sound.ensures.0 c.if-not-is_sound.false)),

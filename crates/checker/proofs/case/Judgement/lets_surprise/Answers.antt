@@ -1,6 +1,4 @@
-use Rattle.std.proofs.lemmas.Bool.Decides.{not_from_Decides}
-use Rattle.checker.proofs.Deciding.{machine_at, surprise_not, surprise_allowed, surprise_where}
-use Rattle.checker.proofs.Read.{decides_false}
+use Rattle.checker.proofs.Deciding.{machine_at, surprise_where}
 use Rattle.checker.proofs.case.Judgement.lets_surprise.Goals as goal
 
 pub returns : goal.returns
