@@ -7,6 +7,8 @@ mod tests {
     use std::test::Fail;
     use table::view::Table;
 
+    const HEADER: usize = 16;
+
     const LENGTH: usize = 56;
 
     // Two machines, two events, a rule of each kind, and two patterns in three lines.
@@ -16,7 +18,8 @@ mod tests {
     ];
 
     // One byte changed: its offset, its new value, and the refusal with its place, or 0 and 0.
-    static CHANGES: [(usize, u8, u8, u32); 112] = [
+    // First each byte by one, in both directions; then values at their limits and just beyond.
+    static CHANGES: [(usize, u8, u8, u32); 134] = [
         (0, 0, 2, 0),
         (0, 2, 2, 0),
         (1, 255, 2, 0),
@@ -129,10 +132,32 @@ mod tests {
         (54, 1, 0, 0),
         (55, 255, 3, 50),
         (55, 1, 3, 50),
+        (16, 0, 3, 16),
+        (16, 32, 0, 0),
+        (16, 33, 3, 16),
+        (18, 0, 3, 18),
+        (18, 32, 0, 0),
+        (18, 33, 3, 18),
+        (22, 3, 3, 20),
+        (28, 2, 3, 26),
+        (35, 3, 3, 32),
+        (40, 3, 3, 38),
+        (41, 1, 0, 0),
+        (41, 2, 3, 38),
+        (42, 4, 3, 38),
+        (44, 2, 3, 44),
+        (46, 1, 0, 0),
+        (46, 2, 3, 44),
+        (47, 2, 3, 44),
+        (48, 3, 0, 0),
+        (48, 4, 3, 44),
+        (53, 2, 3, 50),
+        (54, 3, 0, 0),
+        (54, 4, 3, 50),
     ];
 
-    // Two bytes changed: the first fault in the order of the file wins.
-    static PAIRS: [(usize, u8, usize, u8, u8, u32); 8] = [
+    // Two bytes changed: the first fault in the order of the file wins; or a value at a limit that the other byte moves.
+    static PAIRS: [(usize, u8, usize, u8, u8, u32); 16] = [
         (0, 2, 4, 9, 2, 0),
         (4, 9, 16, 0, 2, 4),
         (8, 4, 16, 0, 1, 0),
@@ -141,6 +166,14 @@ mod tests {
         (38, 9, 32, 9, 3, 32),
         (50, 9, 44, 9, 3, 44),
         (12, 0, 14, 0, 2, 12),
+        (8, 4, 0, 2, 2, 0),
+        (18, 0, 16, 0, 3, 16),
+        (26, 9, 21, 9, 3, 20),
+        (16, 32, 23, 31, 0, 0),
+        (16, 32, 23, 32, 3, 20),
+        (4, 8, 42, 255, 0, 0),
+        (4, 7, 42, 127, 0, 0),
+        (4, 7, 42, 128, 3, 38),
     ];
 
     // The refusal's number and place; 0 and 0 where the table reads. A pair, as the rows of the tables of this file have it:
@@ -180,8 +213,13 @@ mod tests {
 
     #[test]
     fn every_length(rt: HostRuntime) {
+        let mut other_edition = BASE;
+        changed(&mut other_edition, 0, 2);
         for length in 0..LENGTH {
             assert_eq!(rt; verdict(&BASE[0..length]), (1, 0));
+            // below a whole header the length counts first, and from there the header
+            let first = if length < HEADER { (1, 0) } else { (2, 0) };
+            assert_eq!(rt; verdict(&other_edition[0..length]), first);
         }
     }
 
@@ -216,7 +254,7 @@ mod tests {
     }
 
     // Machines, events, rules, pattern lines, bytes too many, and the refusal with its place.
-    static COUNTS: [(u16, u16, u16, u16, u8, u8, u32); 14] = [
+    static COUNTS: [(u16, u16, u16, u16, u8, u8, u32); 18] = [
         (1, 1, 0, 0, 0, 0, 0),
         (6, 8, 256, 64, 0, 0, 0),
         (0, 1, 0, 0, 0, 2, 2),
@@ -231,6 +269,10 @@ mod tests {
         (1, 1, 0, 65, 0, 2, 8),
         (1, 1, 0, 0, 1, 1, 0),
         (2, 2, 3, 3, 1, 1, 0),
+        (6, 8, 256, 64, 1, 1, 0),
+        (7, 9, 257, 65, 0, 2, 2),
+        (6, 9, 257, 65, 0, 2, 4),
+        (6, 8, 257, 65, 0, 2, 6),
     ];
 
     #[test]
