@@ -2,7 +2,7 @@ use Rattle.std.proofs.Common.{Err, subst₂}
 use Rattle.std.proofs.lemmas.Result.{err_from_is_err_and}
 use Rattle.model.specs.Order.{Nothing, FirstFault}
 use Rattle.checker.specs.Verdict.{Applies, numbers, form_order}
-use Rattle.checker.proofs.Whole.{claimed, table_fault, after_table, form_fails}
+use Rattle.checker.proofs.Whole.{claimed, table_fault, after_table, reads_nothing, form_refused}
 use Rattle.checker.proofs.check.read_set.Goals as goal
 
 pub returns-in_err-view : goal.returns-in_err-view
@@ -12,7 +12,7 @@ returns-in_err-view g c =
     let T = claimed g.A.QueueAbstraction c.args.abstraction.now bs s in
     let e = err_from_is_err_and c.from_residual.result c.from_residual.ensures.1 in
     let b = table_fault bs s T (form_order s) c.in_err-view.field-0.0 c.in_err-view.ensures.verdict in
-    rw (e.1, e.2) (form_fails bs s T _ b, b)
+    rw (e.1, e.2) (form_refused bs s T _ b)
 
 pub returns-in_err-check_form : goal.returns-in_err-check_form
 returns-in_err-check_form g c =
@@ -24,10 +24,13 @@ returns-in_err-check_form g c =
     let e = err_from_is_err_and c.from_residual-in_err-check_form.result c.from_residual-in_err-check_form.ensures.1 in
     let first = subst₂ (λ b o. FirstFault (Applies b o (T b o)) (numbers b) (form_order o) f) v.0 c.over-states.ensures c.in_err-check_form.ensures.form in
     let b = after_table bs s (T bs s) (form_order s) (Err f) v.1 first in
-    rw (e.1, e.2) (form_fails bs s (T bs s) f b, b)
+    rw (e.1, e.2) (form_refused bs s (T bs s) f b)
 
 pub returns : goal.returns
 returns g c =
+    let bs = c.args.table.now in
+    let s = c.args.set.now in
     let T = claimed g.A.QueueAbstraction c.args.abstraction.now in
     let v = c.in_ok-view.ensures.verdict in
-    (c.over-states.ensures, v.1, subst₂ (λ b o. Nothing (Applies b o (T b o)) (form_order o)) v.0 c.over-states.ensures c.in_ok-check_form.ensures.form)
+    let form = subst₂ (λ b o. Nothing (Applies b o (T b o)) (form_order o)) v.0 c.over-states.ensures c.in_ok-check_form.ensures.form in
+    (c.over-states.ensures, v.1, form, (reads_nothing bs s (T bs s) v.1, form))
