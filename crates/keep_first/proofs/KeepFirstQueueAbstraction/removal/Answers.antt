@@ -1,7 +1,7 @@
 use Rattle.std.proofs.Common.{◌≡◌, ℕ, suc, ◌^◌, ◌<◌, cond, eqb, [], Some, None, sym, ap, ◌∙◌, subst, arith}
 use Rattle.std.proofs.lemmas.Bool.{cond-true, cond-false, eq-eqb, ne_eqb}
 use Rattle.abstraction.specs.Meaning.{Valid}
-use Rattle.abstraction.proofs.Nth.{nothing, nth_map, nth_map_none}
+use Rattle.abstraction.proofs.Nth.{nothing, nth_map}
 use Rattle.keep_first.specs.KeepFirst.{Split, keep_bits, kept}
 use Rattle.keep_first.specs.Kept.{narrow_below, keep_begun, keep_nth}
 use Rattle.keep_first.proofs.KeepFirstQueueAbstraction.removal.Goals as goal
