@@ -8,9 +8,10 @@
 /* False at the end of the input. */
 static int read_all(void *to, size_t length) { return fread(to, 1, length, stdin) == length; }
 
+/* Never NULL, which `queue_check` is not given: where malloc(0) answers it, the run ends too. */
 static uint8_t *read_file(size_t length) {
     uint8_t *bytes = malloc(length);
-    if ((bytes == NULL && length > 0) || !read_all(bytes, length)) {
+    if (bytes == NULL || !read_all(bytes, length)) {
         fprintf(stderr, "the input ends within a pair, or memory is short\n");
         exit(2);
     }

@@ -10,7 +10,8 @@ extern "C" {
 #endif
 
 /* 0 for a pass; else number + 2^8 * A + 2^32 * B + 2^48 * C of the refusal.
-   Reads table[0 .. table_length) and set[0 .. set_length), keeps and writes nothing. */
+   Reads table[0 .. table_length) and set[0 .. set_length), keeps and writes nothing.
+   Neither pointer may be NULL, not even where its length is 0. */
 uint64_t queue_check(const uint8_t *table, size_t table_length, const uint8_t *set, size_t set_length);
 
 static inline unsigned queue_check_number(uint64_t verdict) { return (unsigned)(verdict & 0xff); }

@@ -5,7 +5,7 @@ use Rattle.model.specs.declared.fault.Fault.{Fault}
 use Rattle.model.specs.State.{start}
 use Rattle.model.specs.System.{WellFormed}
 use Rattle.model.specs.Order.{Order, each, under, Nothing, FirstFault, Answered, ◌then◌}
-use Rattle.model.proofs.Findings.{nothing_under, not_both, answered_first, answered_after, answered_under}
+use Rattle.model.proofs.Findings.{nothing_under, not_both, fault_only, answered_first, answered_after, answered_under}
 use Rattle.table.specs.Layout.{machines_n}
 use Rattle.table.specs.Reading.{Reads}
 use Rattle.table.specs.Findings as reading
@@ -17,7 +17,7 @@ use Rattle.closed_sets.specs.Theorems.{Means, SoundAll}
 use Rattle.closed_sets.proofs.Closure.{found_nothing, closed_nothing, closed_holds}
 use Rattle.checker.specs.Case.{claim}
 use Rattle.checker.specs.Inner.{Formed}
-use Rattle.checker.specs.Promise.{GoodForm, Passes, Safe}
+use Rattle.checker.specs.Promise.{Passes, Safe, Checked, SetRead}
 use Rattle.checker.specs.Ready.{Ready}
 use Rattle.checker.specs.SetFile.{claim_of, records_n, record_byte, Before, SetReady}
 use Rattle.checker.specs.declared.case.Case.{Case}
@@ -88,8 +88,17 @@ module _ (table set : List ℕ) (T : Claim) where
   pub passes_nothing : Passes table set T → Nothing (Applies table set T) (order table set T)
   passes_nothing p = (reads_nothing p.reads, (p.form, ((λ none. none p.closed.begins), nothing_under (Applies table set T) (numbers table) in_record (judging.judged T) (closed_nothing T p.closed))))
 
-  pub fails : (f : Fault) → FirstFault (Applies table set T) (numbers table) (order table set T) f → Passes table set T → ⊥
-  fails f h p = not_both (Applies table set T) (numbers table) (order table set T) h.finding (passes_nothing p) h.first
+  -- the first that applies keeps the set from passing, and no other fault is the first
+  pub refused : (f : Fault) → FirstFault (Applies table set T) (numbers table) (order table set T) f → Checked table set T (Err f)
+  refused f h = (
+    (λ p. not_both (Applies table set T) (numbers table) (order table set T) h.finding (passes_nothing p) h.first),
+    h,
+    λ g other. fault_only (Applies table set T) (numbers table) (order table set T) g f other h,
+  )
 
-  pub form_fails : (f : Fault) → FirstFault (Applies table set T) (numbers table) (table_order table then form_order set) f → Reads table → GoodForm table set T → ⊥
-  form_fails f h r g = not_both (Applies table set T) (numbers table) (table_order table then form_order set) h.finding (reads_nothing r, g) h.first
+  pub form_refused : (f : Fault) → FirstFault (Applies table set T) (numbers table) (table_order table then form_order set) f → SetRead table set T (Err f)
+  form_refused f h = (
+    (λ r g. not_both (Applies table set T) (numbers table) (table_order table then form_order set) h.finding (reads_nothing r, g) h.first),
+    h,
+    λ g other. fault_only (Applies table set T) (numbers table) (table_order table then form_order set) g f other h,
+  )

@@ -4,10 +4,10 @@ use Rattle.model.specs.declared.fault.Fault.{Fault}
 use Rattle.model.specs.State.{State}
 use Rattle.model.specs.Steps.{Reaches}
 use Rattle.model.specs.Bad.{GoesWrong}
-use Rattle.model.specs.Order.{Nothing, FirstFault, ◌then◌}
+use Rattle.model.specs.Order.{Order, Nothing, FirstFault, ◌then◌}
 use Rattle.table.specs.Reading.{Reads}
 use Rattle.closed_sets.specs.Records.{Claim, Closed, Represented}
-use Rattle.checker.specs.Verdict.{Applies, numbers, order, table_order, form_order}
+use Rattle.checker.specs.Verdict.{Finding, Applies, numbers, order, table_order, form_order}
 use Rattle.checker.specs.declared.pass.Pass.{Pass}
 use Rattle.checker.specs.declared.state_set.StateSet.{StateSet}
 
@@ -27,13 +27,18 @@ pub record Safe (T : Claim) : Type 0 where
   pub covers : (s : State) → Reaches T.system s → Represented T s
   pub never : GoesWrong T.system → ⊥
 
--- a pass exactly where the set is as it should be, and then no reached state is bad;
--- else the fault of the first thing wrong in the order
-abbrev pub Checked : List ℕ → List ℕ → Claim → Result Pass Fault → Type 0
-Checked table set T (Ok p) = (p.table.bytes.now ≡ table) × (p.capacity ≡ 32) × Passes table set T × Safe T
-Checked table set T (Err f) = (Passes table set T → ⊥) × FirstFault (Applies table set T) (numbers table) (order table set T) f
+-- no fault but f is that of the first thing wrong in an order
+abbrev pub NoOther : List ℕ → List ℕ → Claim → Order Finding → Fault → Type 0
+NoOther table set T o f = (g : Fault) → FirstFault (Applies table set T) (numbers table) o g → g ≡ f
 
--- a view of the set exactly where the table reads and the set is in good form; else the fault of the first thing wrong
+-- a pass exactly where the set is as it should be, then no reached state is bad and nothing of the order applies;
+-- else the fault of the first thing wrong in the order, and no other fault is that
+abbrev pub Checked : List ℕ → List ℕ → Claim → Result Pass Fault → Type 0
+Checked table set T (Ok p) = (p.table.bytes.now ≡ table) × (p.capacity ≡ 32) × Passes table set T × Safe T × Nothing (Applies table set T) (order table set T)
+Checked table set T (Err f) = (Passes table set T → ⊥) × FirstFault (Applies table set T) (numbers table) (order table set T) f × NoOther table set T (order table set T) f
+
+-- a view of the set exactly where the table reads and the set is in good form, and then nothing of the order up to there applies;
+-- else the fault of the first thing wrong in it, and no other fault is that
 abbrev pub SetRead : List ℕ → List ℕ → Claim → Result StateSet Fault → Type 0
-SetRead table set T (Ok v) = (v.bytes.now ≡ set) × Reads table × GoodForm table set T
-SetRead table set T (Err f) = (Reads table → GoodForm table set T → ⊥) × FirstFault (Applies table set T) (numbers table) (table_order table then form_order set) f
+SetRead table set T (Ok v) = (v.bytes.now ≡ set) × Reads table × GoodForm table set T × Nothing (Applies table set T) (table_order table then form_order set)
+SetRead table set T (Err f) = (Reads table → GoodForm table set T → ⊥) × FirstFault (Applies table set T) (numbers table) (table_order table then form_order set) f × NoOther table set T (table_order table then form_order set) f

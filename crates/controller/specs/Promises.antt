@@ -2,13 +2,13 @@
 use Rattle.std.specs.Prelude.{◌≡◌, ℕ, ◌≤◌, ◌⊎◌, List, length, take, IfOk, IfErr, Ok, Err, Result, MatchResult}
 use Rattle.model.specs.declared.fault.Fault.{Fault}
 use Rattle.model.specs.declared.fault.Refusal.TheVariants.{Capacity}
-use Rattle.model.specs.Order.{FirstFault, Answered}
+use Rattle.model.specs.Order.{Nothing, FirstFault, Answered}
 use Rattle.model.specs.System.{System}
 use Rattle.model.specs.State.{State, start}
 use Rattle.table.specs.Header.{fault_at}
 use Rattle.closed_sets.specs.Records.{Claim}
 use Rattle.checker.specs.declared.pass.Pass.{Pass}
-use Rattle.checker.specs.Promise.{Checked, Passes, Safe}
+use Rattle.checker.specs.Promise.{Checked, NoOther, Passes, Safe}
 use Rattle.checker.specs.Verdict.{Applies, numbers, order}
 use Rattle.controller.specs.declared.call.Answer.{Answer}
 use Rattle.controller.specs.declared.call.Call.{Call}
@@ -34,6 +34,8 @@ pub record Promised (table set : List ℕ) (T : Claim) (x : Result Pass Fault) :
   pub exactly : MatchResult x (λ _. Passes table set T) (λ _. Passes table set T → ⊥)
   -- first: the fault is that of the first thing wrong, in one order from the first byte to the last removal
   pub first : IfErr x (FirstFault (Applies table set T) (numbers table) (order table set T))
+  -- alone: no other fault is that of the first thing wrong, and where a pass is granted nothing of the order is wrong
+  pub alone : MatchResult x (λ _. Nothing (Applies table set T) (order table set T)) (NoOther table set T (order table set T))
   -- safe: after a pass every state that is reached, with queues of any length, is represented and not bad
   pub safe : IfOk x (λ _. Safe T)
   -- runs: after a pass no state of any run of the reference controller is bad, whatever the capacity from 1 to 32 and the calls
@@ -59,6 +61,7 @@ pub record Ran (S : System) (cap : ℕ) (calls : List Call) (places answers : Li
 -- the same from the bytes on, where the set passes and the capacity is from 1 to 32: then no state on the way is bad
 pub record RanSafely (table set : List ℕ) (T : Claim) (cap : ℕ) (calls : List Call) (places answers : List (Result Answer Fault)) (n : ℕ) : Type 0 where
   pub passes : Passes table set T
+  pub nothing : Nothing (Applies table set T) (order table set T)
   pub some : 1 ≤ cap
   pub few : cap ≤ 32
   pub count : n ≡ length (made calls places)

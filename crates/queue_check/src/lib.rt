@@ -25,6 +25,13 @@ const KIND: usize = 2;
 
 const KEPT: usize = 4;
 
+// The bit of the verdict at which each value of a fault begins; the number of the refusal begins at 0.
+const A_AT: u32 = 8;
+
+const B_AT: u32 = 32;
+
+const C_AT: u32 = 48;
+
 // The check under as many layers over an abstraction as the set's header asks for.
 fn check_kept<'a, A: QueueAbstraction + Copy>(
     table: &'a [u8],
@@ -58,9 +65,9 @@ fn pack(fault: Fault) -> u64
     ensures { result ≡ packed fault }
 {
     u64::from(u8::from(fault.number))
-        + (u64::from(fault.a) << 8)
-        + (u64::from(fault.b) << 32)
-        + (fault.c << 48)
+        + (u64::from(fault.a) << A_AT)
+        + (u64::from(fault.b) << B_AT)
+        + (fault.c << C_AT)
 }
 
 // The verdict as one number, as C asks for it: 0 for a pass, else the packed fault.

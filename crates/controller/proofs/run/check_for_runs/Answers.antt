@@ -17,8 +17,8 @@ answered : (S : System) (cap : ℕ) → RunsAnswered S cap
 answered S cap = record { some = λ calls. reference_runs S cap calls (start S); only = run_only S cap (start S) }
 
 promised : (table set : List ℕ) (T : Claim) (x : Result Pass Fault) → Checked table set T x → Promised table set T x
-promised table set T (Ok p) h = record { checked = h; exactly = h.2; first = tt; safe = h.3; runs = runs_safe T.system h.3.never; answers = λ cap. answered T.system cap; reached = runs_reach T.system; steps = exact_steps T.system; refusals = λ cap r s. first_hindrance T.system cap s r }
-promised table set T (Err f) h = record { checked = h; exactly = h.0; first = h.1; safe = tt; runs = tt; answers = λ cap. answered T.system cap; reached = runs_reach T.system; steps = exact_steps T.system; refusals = λ cap r s. first_hindrance T.system cap s r }
+promised table set T (Ok p) h = record { checked = h; exactly = h.2; first = tt; alone = h.4; safe = h.3; runs = runs_safe T.system h.3.never; answers = λ cap. answered T.system cap; reached = runs_reach T.system; steps = exact_steps T.system; refusals = λ cap r s. first_hindrance T.system cap s r }
+promised table set T (Err f) h = record { checked = h; exactly = h.0; first = h.1; alone = h.2; safe = tt; runs = tt; answers = λ cap. answered T.system cap; reached = runs_reach T.system; steps = exact_steps T.system; refusals = λ cap r s. first_hindrance T.system cap s r }
 
 pub returns : goal.returns
 returns g c = promised _ _ _ c.check.result c.check.ensures

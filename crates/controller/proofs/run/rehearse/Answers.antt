@@ -27,6 +27,7 @@ returns g c =
     let answered : c.answer_all.new.answers ≡ filled (answers_to S cap (start S) cs) E = c.answer_all.ensures.answers ∙ ap (λ (a : List (Result Answer Fault)). filled a E) (loaded_answers (system_in me) S me.capacity cap (state_in me) eS ec l.state cs) in
     record {
       passes = p.2;
+      nothing = p.4;
       some = h.set.0;
       few = h.set.1;
       count = c.answer_all.ensures.count;
