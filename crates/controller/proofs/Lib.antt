@@ -3,6 +3,6 @@ mod Blocked
 mod Short
 mod Exact
 mod Hosting
-mod Runs
+pub mod Runs
 mod Hindered
 mod Only
