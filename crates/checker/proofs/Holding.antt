@@ -1,7 +1,6 @@
 -- Entries that are held, and the record that they are. Assumes nothing.
-use Rattle.std.proofs.Common.{◌≡◌, ℕ, ◌<◌, true, ◌&&◌, eqb, List, map, length, get_or, take, set, ap, ◌∙◌, arith, get_or-take}
+use Rattle.std.proofs.Common.{◌≡◌, ℕ, ◌<◌, true, ◌&&◌, eqb, List, map, length, take, set, ap, ◌∙◌, arith}
 use lib.ListN.{length-map}
-use Rattle.std.proofs.Math.ListN.{get_or-map}
 use Rattle.std.proofs.lemmas.Bool.{and_parts, eqb-true}
 use Rattle.std.proofs.lemmas.List.{length-take-le}
 use lib.Seq.{map-set, take-set-lt}
@@ -11,9 +10,6 @@ use Rattle.checker.specs.declared.held.Held.{Held}
 
 abbrev pub blank : Entry
 blank = record { local = 0; code = 0 }
-
-pub held_at : (h : Held) (i : ℕ) → i < h.machines → get_or (record_in h) i (0, 0) ≡ entry_of (get_or h.entries i blank)
-held_at h i l = get_or-take h.machines (map entry_of h.entries) i (0, 0) l ∙ get_or-map entry_of h.entries i blank
 
 pub held_set : (n : ℕ) (es : List Entry) (k : ℕ) (e : Entry) → k < n → take n (map entry_of (set es k e)) ≡ set (take n (map entry_of es)) k (entry_of e)
 held_set n es k e h = ap (take n) (map-set entry_of es k e) ∙ take-set-lt n (map entry_of es) k (entry_of e) h

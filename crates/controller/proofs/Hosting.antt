@@ -1,15 +1,11 @@
 -- A table that reads has no more machines than a controller has entries. Assumes nothing.
-use Rattle.std.proofs.Common.{◌≡◌, ℕ, min, List, ap, arith, length-take}
+use Rattle.std.proofs.Common.{◌≡◌, ℕ, List, ap, arith}
 use Rattle.std.proofs.lemmas.List.{take_all}
-use Rattle.model.specs.System.{System, machines}
 use Rattle.table.specs.Reading.{Reads}
 use Rattle.table.specs.SystemOf.{system_of}
 use Rattle.table.proofs.Parts.{machines_long}
 use Rattle.table.proofs.Wholesome.{few_machines}
 use Rattle.controller.specs.Hosted.{hosted}
-
-pub machines_hosted : (S : System) → machines (hosted S) ≡ min 6 (machines S)
-machines_hosted S = length-take 6 S.states
 
 pub hosted_whole : (bs : List ℕ) → Reads bs → hosted (system_of bs) ≡ system_of bs
 hosted_whole bs reads =
