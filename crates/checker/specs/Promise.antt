@@ -1,10 +1,12 @@
--- What a pass promises. Assumes nothing.
-use Rattle.std.specs.Prelude.{◌≡◌, ℕ, List, Ok, Err, Result}
+-- What the check and its pass promise. Assumes nothing.
+use Rattle.std.specs.Prelude.{◌≡◌, ℕ, ◌≤◌, List, Ok, Err, Result, MatchResult}
 use Rattle.model.specs.declared.fault.Fault.{Fault}
+use Rattle.model.specs.declared.fault.Refusal.TheVariants.{Capacity}
 use Rattle.model.specs.State.{State}
 use Rattle.model.specs.Steps.{Reaches}
 use Rattle.model.specs.Bad.{GoesWrong}
 use Rattle.model.specs.Order.{Order, Nothing, FirstFault, ◌then◌}
+use Rattle.table.specs.Header.{fault_at}
 use Rattle.table.specs.Reading.{Reads}
 use Rattle.closed_sets.specs.Records.{Claim, Closed, Represented}
 use Rattle.checker.specs.Verdict.{Finding, Applies, numbers, order, table_order, form_order}
@@ -42,3 +44,9 @@ Checked table set T (Err f) = (Passes table set T → ⊥) × FirstFault (Applie
 abbrev pub SetRead : List ℕ → List ℕ → Claim → Result StateSet Fault → Type 0
 SetRead table set T (Ok v) = (v.bytes.now ≡ set) × Reads table × GoodForm table set T × Nothing (Applies table set T) (table_order table then form_order set)
 SetRead table set T (Err f) = (Reads table → GoodForm table set T → ⊥) × FirstFault (Applies table set T) (numbers table) (table_order table then form_order set) f × NoOther table set T (table_order table then form_order set) f
+
+-- pass p, of which a capacity was asked, is q then: a capacity from 1 to 32 is set; any other is refused by 12 with that number, and the one
+-- before stays
+abbrev pub CapacitySet : Pass → ℕ → Result (Unit {0}) Fault → Pass → Type 0
+CapacitySet p n x q =
+    MatchResult x (λ _. (1 ≤ n) × (n ≤ 32) × (q.capacity ≡ n)) (λ f. (1 ≤ n → n ≤ 32 → ⊥) × (f ≡ fault_at Capacity n) × (q.capacity ≡ p.capacity))

@@ -1,7 +1,6 @@
 // The pass of a table that was checked.
-ghost use Rattle.std.specs.Prelude.{◌≡◌, ℕ, ◌≤◌, MatchResult};
-ghost use Rattle.model.specs.declared.fault.Refusal.TheVariants.{Capacity};
-ghost use Rattle.table.specs.Header.{fault_at};
+ghost use Rattle.std.specs.Prelude.{◌≡◌};
+ghost use Rattle.checker.specs.Promise.{CapacitySet};
 
 use model::fault::{Fault, Refusal};
 use table::header::fault_at;
@@ -36,7 +35,7 @@ impl<'a> Pass<'a> {
     // Sets the capacity, which is from 1 to 32.
     pub fn set_capacity(&mut self, capacity: u8) -> Result<(), Fault>
         ensures table { self.new.table ≡ self.old.table }
-        ensures set { MatchResult result (λ _. (1 ≤ capacity) × (capacity ≤ 32) × (self.new.capacity ≡ capacity)) (λ f. (1 ≤ capacity → capacity ≤ 32 → ⊥) × (f ≡ fault_at Capacity capacity) × (self.new.capacity ≡ self.old.capacity)) }
+        ensures set { CapacitySet self.old capacity result self.new }
     {
         if !(1..=FULL_CAPACITY).contains(&capacity) {
             return Err(fault_at(Refusal::Capacity, u32::from(capacity)));

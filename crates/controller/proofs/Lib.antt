@@ -2,6 +2,6 @@ mod Blocked
 mod Short
 mod Exact
 mod Hosting
-mod Runs
+pub mod Runs
 mod Hindered
 mod Only

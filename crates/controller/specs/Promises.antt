@@ -1,22 +1,35 @@
--- What is promised of the whole, from the bytes of a table and a set to every call of a controller. Assumes nothing.
-use Rattle.std.specs.Prelude.{◌≡◌, ℕ, ◌≤◌, ◌⊎◌, List, length, take, IfOk, IfErr, Ok, Err, Result, MatchResult}
+-- What is promised of the whole, from the bytes of a table and a set to every call of a controller: by the check (`Promised`), by each call
+-- (`CapacitySet`, `Keeps`, and `HasTable` to `MovesAll`), and of whole runs (`Ran`, `Rehearsed`). What the program `rehearse` promises of its
+-- own run is `FromFiles` in crates/rehearsal. Assumes nothing.
+use Rattle.std.specs.Prelude.{◌≡◌, ℕ, min, ◌≤◌, ◌⊎◌, List, length, take, IfOk, IfErr, Ok, Err, Result, MatchResult}
 use Rattle.model.specs.declared.fault.Fault.{Fault}
 use Rattle.model.specs.declared.fault.Refusal.TheVariants.{Capacity}
 use Rattle.model.specs.Order.{Nothing, FirstFault, Answered}
 use Rattle.model.specs.System.{System}
 use Rattle.model.specs.State.{State, start}
 use Rattle.table.specs.Header.{fault_at}
+use Rattle.table.specs.Reading.{Reads}
+use Rattle.table.specs.SystemOf.{system_of}
 use Rattle.closed_sets.specs.Records.{Claim}
 use Rattle.checker.specs.declared.pass.Pass.{Pass}
 use Rattle.checker.specs.Promise.{Checked, NoOther, Passes, Safe}
 use Rattle.checker.specs.Verdict.{Applies, numbers, order}
 use Rattle.controller.specs.declared.call.Answer.{Answer}
 use Rattle.controller.specs.declared.call.Call.{Call}
+use Rattle.controller.specs.declared.call.Call.TheVariants.{Fire}
+use Rattle.controller.specs.declared.call.Sight.{Sight}
+use Rattle.controller.specs.declared.held.Controller.{Controller}
 use Rattle.controller.specs.Exact.{Fires}
 use Rattle.controller.specs.Hindrances as hindrances
-use Rattle.controller.specs.Reference.{refusal, fired, next, answers_to, after, made, filled}
+use Rattle.controller.specs.Reference.{refusal, fired, looked, answer, next, answers_to, after, made, filled}
 use Rattle.controller.specs.Runs.{Run, RunsAnswered, RunReaches, RunSafe, RunsSafe}
-use Rattle.controller.specs.declared.call.Call.TheVariants.{Fire}
+use Rattle.controller.specs.Views.{system_in, state_in}
+-- what two more promises are called: of set_capacity, that a capacity from 1 to 32 is set, and that any other is refused by 12 and the one
+-- before stays; and of the calls of a controller that change it, that the table and the capacity stay
+pub use Rattle.checker.specs.Promise.{CapacitySet}
+pub use Rattle.controller.specs.Views.{Keeps}
+
+-- What the check promises.
 
 -- a fire is accepted exactly when the rule makes a state for which there is room, and goes there; else the state stays
 abbrev pub ExactSteps : System → Type 0
@@ -26,7 +39,7 @@ ExactSteps S = (cap r : ℕ) (s : State) → Fires S cap r s (next S cap s (Fire
 abbrev pub FirstRefusals : System → Type 0
 FirstRefusals S = (cap r : ℕ) (s : State) → Answered (hindrances.Applies S cap s r) (hindrances.numbers r) hindrances.order (fired r (refusal S cap s r))
 
--- what the check promises
+-- of a table and a set
 pub record Promised (table set : List ℕ) (T : Claim) (x : Result Pass Fault) : Type 0 where
   -- a pass is granted, for these bytes and at capacity 32, or a fault is answered
   pub checked : Checked table set T x
@@ -48,6 +61,63 @@ pub record Promised (table set : List ℕ) (T : Claim) (x : Result Pass Fault) :
   pub steps : ExactSteps T.system
   -- refusals: what it refuses, it refuses for the first reason
   pub refusals : FirstRefusals T.system
+
+-- What each call promises, of every controller and every input: c is the controller before the call, d the one after it.
+
+-- load: the table is the pass's, and so is the capacity, up to 32, which no set one is above; the state is the start; of a table that reads
+-- the system is the whole one
+abbrev pub HasTable : Pass → Controller → Type 0
+HasTable p c = c.table ≡ p.table
+
+abbrev pub HasCapacity : Pass → Controller → Type 0
+HasCapacity p c = c.capacity ≡ min p.capacity 32
+
+abbrev pub HasGranted : Pass → Controller → Type 0
+HasGranted p c = p.capacity ≤ 32 → c.capacity ≡ p.capacity
+
+abbrev pub AtStart : Controller → Type 0
+AtStart c = state_in c ≡ start (system_in c)
+
+abbrev pub HasWhole : Pass → Controller → Type 0
+HasWhole p c = Reads p.table.bytes.now → system_in c ≡ system_of p.table.bytes.now
+
+-- fire, look, and answer, which makes any call: the answer is the reference controller's
+abbrev pub FireAnswered : Controller → ℕ → Result (Unit {0}) Fault → Type 0
+FireAnswered c r x = x ≡ fired r (refusal (system_in c) c.capacity (state_in c) r)
+
+abbrev pub LookAnswered : Controller → ℕ → ℕ → Result Sight Fault → Type 0
+LookAnswered c i p x = x ≡ looked (system_in c) (state_in c) i p
+
+abbrev pub CallAnswered : Controller → Call → Result Answer Fault → Type 0
+CallAnswered c call x = x ≡ answer (system_in c) c.capacity (state_in c) call
+
+-- fire, reset, and answer: the state after the call is the reference controller's; after a reset that is the start, and a look changes nothing
+abbrev pub Moves : Controller → Call → Controller → Type 0
+Moves c call d = state_in d ≡ next (system_in c) c.capacity (state_in c) call
+
+-- fire, and answer: a refusal leaves the state
+abbrev pub RefusalStays : {X : Type 0} → Controller → Result X Fault → Controller → Type 0
+RefusalStays c x d = IfErr x (λ _. state_in d ≡ state_in c)
+
+-- fire: a refusal is for the first of 13 to 17 that applies
+abbrev pub FirstReason : Controller → ℕ → Result (Unit {0}) Fault → Type 0
+FirstReason c r x = Answered (hindrances.Applies (system_in c) c.capacity (state_in c) r) (hindrances.numbers r) hindrances.order x
+
+-- fire: it is accepted exactly when the rule makes a state for which there is room, and goes there
+abbrev pub ExactStep : Controller → ℕ → Result (Unit {0}) Fault → Controller → Type 0
+ExactStep c r x d = Fires (system_in c) c.capacity r (state_in c) (state_in d) x
+
+-- answer_all: as many calls are made as there are places for answers; answers and state are the reference controller's
+abbrev pub AllCounted : List Call → List (Result Answer Fault) → ℕ → Type 0
+AllCounted calls places n = n ≡ length (made calls places)
+
+abbrev pub AllAnswered : Controller → List Call → List (Result Answer Fault) → List (Result Answer Fault) → Type 0
+AllAnswered c calls places answers = answers ≡ filled (answers_to (system_in c) c.capacity (state_in c) (made calls places)) places
+
+abbrev pub MovesAll : Controller → List Call → List (Result Answer Fault) → Controller → Type 0
+MovesAll c calls places d = state_in d ≡ after (system_in c) c.capacity (state_in c) (made calls places)
+
+-- What whole runs promise.
 
 -- what a loaded controller promises of the calls for whose answers there are places: every answer is the reference controller's and
 -- nothing is written beyond them, it stands in the reference's state t, the answers and t are related to the calls by Run, and every

@@ -1,16 +1,12 @@
 // What can be asked of a controller.
-ghost use Rattle.std.specs.Prelude.{◌≡◌, ◌≤◌, min, length};
-ghost use Rattle.model.specs.Order.{Answered};
-ghost use Rattle.model.specs.State.{start};
+ghost use Rattle.std.specs.Prelude.{◌≡◌, ◌≤◌, min};
 ghost use Rattle.model.specs.System.{machines};
 ghost use Rattle.table.specs.Header.{fault_at};
-ghost use Rattle.table.specs.Reading.{Reads};
 ghost use Rattle.table.specs.SystemOf.{system_of};
-ghost use Rattle.controller.specs.Exact.{Fires};
-ghost use Rattle.controller.specs.Hindrances.{Applies, numbers, order};
 ghost use Rattle.controller.specs.Hosted.{hosted};
-ghost use Rattle.controller.specs.Reference.{refusal, fired, looked, answer, next, answers_to, after, made, filled};
-ghost use Rattle.controller.specs.Views.{system_in, state_in, Keeps};
+ghost use Rattle.controller.specs.Promises.{HasTable, HasCapacity, HasGranted, HasWhole, AtStart};
+ghost use Rattle.controller.specs.Promises.{FireAnswered, LookAnswered, CallAnswered, AllCounted, AllAnswered, Moves, MovesAll, RefusalStays, FirstReason, ExactStep};
+ghost use Rattle.controller.specs.Views.{Keeps};
 
 use crate::call::{Answer, Call, Sight};
 use crate::held::Controller;
@@ -46,11 +42,11 @@ fn machines_held(table: &Table<'_>) -> u8
 impl<'a> Controller<'a> {
     // A controller at the start. The pass is used up.
     pub fn load(pass: Pass<'a>) -> Controller<'a>
-        ensures table { result.table ≡ pass.entry.table }
-        ensures capacity { result.capacity ≡ min pass.entry.capacity 32 }
-        ensures granted { pass.entry.capacity ≤ 32 → result.capacity ≡ pass.entry.capacity }
-        ensures state { state_in result ≡ start (system_in result) }
-        ensures whole { Reads pass.entry.table.bytes.now → system_in result ≡ system_of pass.entry.table.bytes.now }
+        ensures table { HasTable pass.entry result }
+        ensures capacity { HasCapacity pass.entry result }
+        ensures granted { HasGranted pass.entry result }
+        ensures state { AtStart result }
+        ensures whole { HasWhole pass.entry result }
     {
         let table = pass.table();
         Controller {
@@ -62,10 +58,11 @@ impl<'a> Controller<'a> {
 
     // Fires a rule, or says why it cannot be fired.
     pub fn fire(&mut self, rule: u16) -> Result<(), Fault>
-        ensures answer { result ≡ fired rule (refusal (system_in self.old) self.old.capacity (state_in self.old) rule) }
-        ensures state { state_in self.new ≡ next (system_in self.old) self.old.capacity (state_in self.old) (Call.Fire rule) }
-        ensures first { Answered (Applies (system_in self.old) self.old.capacity (state_in self.old) rule) (numbers rule) order result }
-        ensures exact { Fires (system_in self.old) self.old.capacity rule (state_in self.old) (state_in self.new) result }
+        ensures answer { FireAnswered self.old rule result }
+        ensures state { Moves self.old (Call.Fire rule) self.new }
+        ensures stays { RefusalStays self.old result self.new }
+        ensures first { FirstReason self.old rule result }
+        ensures exact { ExactStep self.old rule result self.new }
         ensures keeps { Keeps self.old self.new }
     {
         let named = self.table.rule(rule).ok_or(refused(Refusal::NoRule, rule))?;
@@ -76,7 +73,7 @@ impl<'a> Controller<'a> {
 
     // Goes back to the start.
     pub fn reset(&mut self)
-        ensures state { state_in self.new ≡ start (system_in self.old) }
+        ensures state { Moves self.old Call.Reset self.new }
         ensures keeps { Keeps self.old self.new }
     {
         self.machines.restart();
@@ -84,7 +81,7 @@ impl<'a> Controller<'a> {
 
     // What is seen of a machine, with the event at a place of its queue; 0 is the front.
     pub fn look(&self, machine: u8, place: u8) -> Result<Sight, Fault>
-        ensures { result ≡ looked (system_in self.now) (state_in self.now) machine place }
+        ensures { LookAnswered self.now machine place result }
     {
         self.machines
             .sight(machine, place)
@@ -93,8 +90,9 @@ impl<'a> Controller<'a> {
 
     // Makes a call, or says why it cannot be made.
     pub fn answer(&mut self, call: Call) -> Result<Answer, Fault>
-        ensures answer { result ≡ answer (system_in self.old) self.old.capacity (state_in self.old) call }
-        ensures state { state_in self.new ≡ next (system_in self.old) self.old.capacity (state_in self.old) call }
+        ensures answer { CallAnswered self.old call result }
+        ensures state { Moves self.old call self.new }
+        ensures stays { RefusalStays self.old result self.new }
         ensures keeps { Keeps self.old self.new }
     {
         // A match: a call is an enum, whose kinds carry numbers of their own.
@@ -113,9 +111,9 @@ impl<'a> Controller<'a> {
 
     // Makes calls in their order, as many as there are places for answers.
     pub fn answer_all(&mut self, calls: &[Call], answers: &mut [Result<Answer, Fault>]) -> usize
-        ensures count { result ≡ length (made calls.now answers.old) }
-        ensures answers { answers.new ≡ filled (answers_to (system_in self.old) self.old.capacity (state_in self.old) (made calls.now answers.old)) answers.old }
-        ensures state { state_in self.new ≡ after (system_in self.old) self.old.capacity (state_in self.old) (made calls.now answers.old) }
+        ensures count { AllCounted calls.now answers.old result }
+        ensures answers { AllAnswered self.old calls.now answers.old answers.new }
+        ensures state { MovesAll self.old calls.now answers.old self.new }
         ensures keeps { Keeps self.old self.new }
     {
         let made = &calls[..calls.len().min(answers.len())];

@@ -1,5 +1,6 @@
 // Whole runs: from the bytes of a table and a set to the answers.
-ghost use Rattle.std.specs.Prelude.{min};
+ghost use Rattle.std.specs.Prelude.{◌≤◌, min};
+ghost use Rattle.table.specs.Reading.{Reads};
 ghost use Rattle.table.specs.SystemOf.{system_of};
 ghost use Rattle.checker.specs.SetFile.{claim_of};
 ghost use Rattle.controller.specs.Hosted.{hosted};
@@ -19,7 +20,8 @@ pub fn run<'a>(
     calls: &[Call],
     answers: &mut [Result<Answer, Fault>],
 ) -> Controller<'a>
-    ensures { Ran (hosted (system_of pass.entry.table.bytes.now)) (min pass.entry.capacity 32) calls.now answers.old answers.new (state_in result) }
+    ensures ran { Ran (hosted (system_of pass.entry.table.bytes.now)) (min pass.entry.capacity 32) calls.now answers.old answers.new (state_in result) }
+    ensures whole { Reads pass.entry.table.bytes.now → pass.entry.capacity ≤ 32 → Ran (system_of pass.entry.table.bytes.now) pass.entry.capacity calls.now answers.old answers.new (state_in result) }
 {
     let mut controller = Controller::load(pass);
     let _ = controller.answer_all(calls, answers);

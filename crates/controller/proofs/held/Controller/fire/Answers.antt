@@ -1,5 +1,7 @@
-use Rattle.std.proofs.Common.{◌≡◌, length, sym, refl, ap, ◌∙◌, rules}
-use Rattle.controller.specs.Reference.{fired, refusal, blocked}
+use Rattle.std.proofs.Common.{◌≡◌, Some, length, slice_get, sym, ap, ◌∙◌, rules}
+use Rattle.controller.specs.Promises.{FireAnswered}
+use Rattle.controller.specs.Reference.{blocked, next}
+use Rattle.controller.specs.declared.call.Call.TheVariants.{Fire}
 use Rattle.controller.specs.Views.{system_in, state_in}
 use Rattle.controller.proofs.Exact.{refusal_named, next_named, exact_at}
 use Rattle.controller.proofs.Hindered.{first_at}
@@ -16,16 +18,30 @@ invariant_of-self c =
       short = short_fired me.capacity (state_in me) x c.fire.new.self c.fire.ensures.state me.short;
     }
 
-pub returns : goal.returns
-returns c =
+-- what the table says of the rule's number
+named : (c : goal.After-map_err) → slice_get (system_in c.args.self.now).rules c.args.rule ≡ Some c.in_ok-named.named
+named c = sym c.rule.ensures ∙ c.in_ok-named.ensures.ok_part
+
+answered : (c : goal.After-map_err) → FireAnswered c.args.self.now c.args.rule c.map_err.result
+answered c =
     let me = c.args.self.now in
-    let S = system_in me in
-    let cap = me.capacity in
-    let s = state_in me in
-    let r = c.args.rule in
-    let x = c.in_ok-named.named in
-    let e = sym c.rule.ensures ∙ c.in_ok-named.ensures.ok_part in
-    let is = refusal_named S cap s r x e in
-    let state = next_named S cap s r x e _ c.fire.ensures.state in
-    let answer : c.map_err.result ≡ fired r (refusal S cap s r) = search rules in
-    record { answer = answer; state = state; first = first_at S cap s r _ answer; exact = exact_at S cap s r _ _ answer state; keeps = record { table = refl; capacity = refl } }
+    let is = refusal_named (system_in me) me.capacity (state_in me) c.args.rule c.in_ok-named.named (named c) in search rules
+
+moved : (c : goal.After-map_err) → c.fire.new.self ≡ next (system_in c.args.self.now) c.args.self.now.capacity (state_in c.args.self.now) (Fire c.args.rule)
+moved c =
+    let me = c.args.self.now in
+    next_named (system_in me) me.capacity (state_in me) c.args.rule c.in_ok-named.named (named c) _ c.fire.ensures.state
+
+pub returns-clause-answer : goal.returns-clause-answer
+returns-clause-answer c = answered c
+
+pub returns-clause-state : goal.returns-clause-state
+returns-clause-state c = moved c
+
+pub returns-clause-first : goal.returns-clause-first
+returns-clause-first c =
+    let me = c.args.self.now in first_at (system_in me) me.capacity (state_in me) c.args.rule _ (answered c)
+
+pub returns-clause-exact : goal.returns-clause-exact
+returns-clause-exact c =
+    let me = c.args.self.now in exact_at (system_in me) me.capacity (state_in me) c.args.rule _ _ (answered c) (moved c)
