@@ -46,8 +46,9 @@ pub(crate) struct Judge<'t, 'a, A> {
     ghost planned: { Planned case.now.table.view.bytes.now plan } by { planned_prop case.now.table.view.bytes.now plan },
 }
 
-// Record `k` of the set, as it is held. That it is sound is asked of callers: a good code names some queue, and a ghost
-// field holds only facts that have one proof.
+// Record `k` of the set, as it is held. That it is sound is asked of callers: a good code names some queue, so a ghost
+// field could only say that there is a proof, `∥ .. ∥₁`. A lemma that opens that for a clause as `Decides` was tried, and
+// asks that any two queues are equal.
 #[derive(Drop)]
 pub(crate) struct Judgement<'t, 'a, A> {
     pub(crate) judge: &'a Judge<'t, 'a, A>,

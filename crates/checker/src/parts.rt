@@ -64,13 +64,11 @@ impl ReadTable<'_> {
     pub(crate) fn no_take(&self, machine: u8, local: u8, event: u8) -> bool
         ensures { Decides result (NoTake (system_of self.now.view.bytes.now) machine local event) }
     {
-        // rules go by number; with `all` over the numbers two goals stay open
-        for r in 0..self.view.rule_count() {
-            if takes(self.rule(r), machine, local, event) {
-                return false;
-            }
-        }
-        true
+        (0..self.view.rule_count()).all(
+            |r|
+                requires { r < rules_n self.now.view.bytes.now }
+            { !takes(self.rule(r), machine, local, event) },
+        )
     }
 }
 

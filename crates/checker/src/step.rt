@@ -176,7 +176,7 @@ impl<A: QueueAbstraction> Judgement<'_, '_, A> {
     {
         let plan = &self.judge.plan;
         let mut next = plan.first(i, self.held.entry(i).local);
-        // a walk along a chain: an iterator over it would be these two steps, and a proof that it ends
+        // a walk along a chain: std says of `iter::successors` that it has no end, so `all` over it asks for a proof of `⊥`
         while let Some(r) = next {
             if self.check_rule(hints, r).is_err() {
                 return false;
