@@ -44,6 +44,6 @@ no_bit e b = omega (arith, b, bit_at-zero e)
 pub covers_zero : (Q : List ℕ) → Covers 0 Q
 covers_zero Q e b = absurd (no_bit e b)
 
--- what the test of a bit tells of the mask that was cast for it
-pub has_bit : (mask e : ℕ) {cast : ℕ} {r : Bool} → r ≡ present cast e → cast ≡ mask → Decides r (Bit mask e)
-has_bit mask e {cast = cast} {r = r} h p = subst (λ (x : ℕ). Decides r (Bit x e)) p (Decides-at _ _ h (Decides-eqb (cast / 2 ^ e % 2) 1))
+-- what the test of a bit tells, where the mask was cast for it
+pub tells_bit : (mask e : ℕ) {cast : ℕ} {r : Bool} → r ≡ present cast e → cast ≡ mask → Decides r (Bit mask e)
+tells_bit mask e {cast = cast} {r = r} h p = subst (λ (x : ℕ). Decides r (Bit x e)) p (Decides-at _ _ h (Decides-eqb (cast / 2 ^ e % 2) 1))

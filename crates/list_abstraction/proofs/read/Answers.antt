@@ -2,7 +2,7 @@ use Rattle.std.proofs.Common.{◌≡◌, ℕ, ◌+◌, ◌-◌, ◌*◌, ◌/◌
 use lib.Bits.{bit_or}
 use Rattle.std.proofs.lemmas.Bool.Decides.{not_from_Decides}
 use Rattle.model.specs.Queue.{Bit}
-use Rattle.abstraction.proofs.Masks.{has_bit}
+use Rattle.abstraction.proofs.Masks.{tells_bit}
 use Rattle.list_abstraction.proofs.Prefix.{Far, far_more, far_done, far_next}
 use Rattle.list_abstraction.proofs.read.Goals as goal
 
@@ -20,7 +20,7 @@ returns-then-has c g =
     let v = c.if-not-valid.ensures.0 refl in
     let (e, r, p, l, n) = far_next c.args.m c.args.c v _ _ c.loop-rest.invariant g c.loop-rest-test.true in
     let q : c.loop-rest.rest % 16 - 1 ≡ e = omega arith in
-    n (subst (Bit c.loop-rest.mask) q ((has_bit _ _ c.has.ensures c.from.ensures).0 c.if-has.true))
+    n (subst (Bit c.loop-rest.mask) q ((tells_bit _ _ c.has.ensures c.from.ensures).0 c.if-has.true))
 
 pub loop-rest-preserved : goal.loop-rest-preserved
 loop-rest-preserved c =
@@ -32,7 +32,7 @@ loop-rest-preserved c =
     let l : e < c.args.m = omega (arith, r.0, r.1) in
     let f = subst (λ (x : ℕ). Far c.args.m c.args.c x c.loop-rest.mask) p c.loop-rest.invariant in
     let o : c.bit-mask.result ≡ 2 ^ e = c.bit-mask.ensures.event (omega (arith, l, v.few)) in
-    let n : Bit c.loop-rest.mask e → ⊥ = not_from_Decides _ (has_bit _ _ c.has.ensures c.from.ensures) c.if-has.false in
+    let n : Bit c.loop-rest.mask e → ⊥ = not_from_Decides _ (tells_bit _ _ c.has.ensures c.from.ensures) c.if-has.false in
     subst (λ (x : ℕ). Far c.args.m c.args.c (rest / 16) (bit_or c.loop-rest.mask x)) (sym o)
     (far_more c.args.m c.args.c v (rest / 16) c.loop-rest.mask e f l n)
 

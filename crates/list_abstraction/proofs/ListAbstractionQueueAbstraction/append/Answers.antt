@@ -2,7 +2,7 @@ use Rattle.std.proofs.Common.{◌≡◌, ℕ, ◌+◌, ◌*◌, ◌^◌, ◌<◌
 use Rattle.std.proofs.lemmas.Bool.Decides.{not_from_Decides}
 use Rattle.model.specs.Queue.{Waits, present}
 use Rattle.abstraction.specs.Meaning.{Appended}
-use Rattle.abstraction.proofs.Masks.{has_bit}
+use Rattle.abstraction.proofs.Masks.{tells_bit}
 use Rattle.std.specs.Int.RustNames.{count_ones}
 use Rattle.list_abstraction.specs.List.{list_code}
 use Rattle.list_abstraction.specs.Read.{Seen}
@@ -12,10 +12,10 @@ use Rattle.list_abstraction.proofs.ListAbstractionQueueAbstraction.append.Goals 
 pub returns-then-has : goal.returns-then-has
 returns-then-has c =
     let s = c.in_ok-listed.ensures in
-    append_held _ _ s.list s.coded c.args.e c.if-e-m.false ((s.marks c.args.e).0 ((has_bit _ _ c.has.ensures c.from.ensures).0 c.if-has.true))
+    append_held _ _ s.list s.coded c.args.e c.if-e-m.false ((s.marks c.args.e).0 ((tells_bit _ _ c.has.ensures c.from.ensures).0 c.if-has.true))
 
 new : (m c mask e : ℕ) {cast : ℕ} {r : Bool} (s : Seen m c mask) → r ≡ present cast e → cast ≡ mask → r ≡ false → Waits e s.list → ⊥
-new m c mask e s h p n w = not_from_Decides _ (has_bit mask e h p) n ((s.marks e).1 w)
+new m c mask e s h p n w = not_from_Decides _ (tells_bit mask e h p) n ((s.marks e).1 w)
 
 fit : (m c mask e wide here : ℕ) (s : Seen m c mask) → e < m → (Waits e s.list → ⊥) → wide ≡ e → here ≡ 2 ^ (4 * count_ones mask) → c + (wide + 1) * here < 2 ^ 32
 fit m c mask e wide here s l n q r =

@@ -1,7 +1,7 @@
 use Rattle.std.proofs.Common.{sym, refl, ◌∙◌, arith}
 use Rattle.std.proofs.lemmas.Bool.{false≢true}
 use Rattle.std.proofs.lemmas.Bool.Decides.{Decides-eqb, not_from_Decides}
-use Rattle.abstraction.proofs.Masks.{has_bit}
+use Rattle.abstraction.proofs.Masks.{tells_bit}
 use Rattle.abstraction.proofs.Calls.{empty_allows, at_front}
 use Rattle.set_abstraction.specs.Set.{set_code}
 use Rattle.set_abstraction.specs.Codes.{set_good_below, good_byte}
@@ -25,12 +25,12 @@ pub returns-then-has : goal.returns-then-has
 returns-then-has c =
     let g = c.if-not-good.ensures.0 refl in
     let e = c.in-Event.e in
-    let b = (has_bit c.args.c e c.has.ensures refl).0 c.if-has.true in
+    let b = (tells_bit c.args.c e c.has.ensures refl).0 c.if-has.true in
     at_front c.in-Event.is (event_answer c.args.m c.args.c c.args.mask g.valid (set_good_below c.args.m c.args.c g) e _ b c.within-held.ensures)
 
 pub returns-else-has : goal.returns-else-has
 returns-else-has c =
     let g = c.if-not-good.ensures.0 refl in
     let e = c.in-Event.e in
-    let n = not_from_Decides _ (has_bit c.args.c e c.has.ensures refl) c.if-has.false in
+    let n = not_from_Decides _ (tells_bit c.args.c e c.has.ensures refl) c.if-has.false in
     at_front c.in-Event.is (λ t. absurd (false≢true (sym c.if-has.false ∙ t)), λ a. absurd (n (event_needs c.args.m c.args.c c.args.mask g.valid (set_good_below c.args.m c.args.c g) e a)))
