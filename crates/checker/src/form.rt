@@ -16,7 +16,7 @@ ghost use Rattle.checker.specs.Verdict.{bounds, field, HeaderApplies, header_num
 
 use crate::case::{Case, Judge};
 use crate::held::{Entry, Held};
-use crate::state_set::ENTRY_LENGTH;
+use crate::state_set::{EDITION, ENTRY_LENGTH, LAST_KIND, MOST_KEPT, MOST_RECORDS};
 use abstraction::QueueAbstraction;
 use model::fault::{Fault, Refusal};
 use table::header::{FIELDS, HEADER_LENGTH, check_fields, fault_at};
@@ -30,12 +30,12 @@ impl<A: QueueAbstraction> Case<'_, '_, A> {
         let events = u32::from(self.table.view.event_count());
         let records_at = HEADER_LENGTH as u32;
         [
-            (1, 1),
-            (0, 2),
-            (0, 2),
+            (EDITION, EDITION),
+            (0, LAST_KIND),
+            (0, MOST_KEPT),
             (machines, machines),
             (events, events),
-            (0, 65_535),
+            (0, MOST_RECORDS),
             (records_at, records_at),
             (0, 0),
         ]

@@ -13,6 +13,15 @@ use table::bytes::word;
 use table::header::HEADER_LENGTH;
 use table::layout::MOST_MACHINES;
 
+// What a set's header may hold: its edition, the last kind of abstraction, the most layers kept, the most records.
+pub(crate) const EDITION: u32 = 1;
+
+pub(crate) const LAST_KIND: u32 = 2;
+
+pub(crate) const MOST_KEPT: u32 = 2;
+
+pub(crate) const MOST_RECORDS: u32 = 65_535;
+
 // The header field that counts the records.
 const RECORD_COUNT: usize = 10;
 

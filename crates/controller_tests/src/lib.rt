@@ -29,6 +29,10 @@ mod tests {
         ))
     }
 
+    fn look(machine: u8, place: u8) -> Call {
+        Call::Look { machine, place }
+    }
+
     // An answer, or the number of the refusal.
     fn numbered(answer: Result<Answer, Fault>) -> Result<Answer, u8> {
         answer.map_err(|fault| u8::from(fault.number))
@@ -62,19 +66,10 @@ mod tests {
         let calls = [
             Call::Fire { rule: 0 },
             Call::Fire { rule: 0 },
-            Call::Look {
-                machine: 1,
-                place: 1,
-            },
-            Call::Look {
-                machine: 2,
-                place: 0,
-            },
+            look(1, 1),
+            look(2, 0),
             Call::Reset,
-            Call::Look {
-                machine: 1,
-                place: 0,
-            },
+            look(1, 0),
         ];
         let mut answers = [Ok(Answer::Accepted); 7];
         assert_eq!(rt; rehearsed(2, &calls, &mut answers), Ok(6));
@@ -123,14 +118,8 @@ mod tests {
     fn lines(rt: HostRuntime) -> Result<(), Fail> {
         let calls = [
             Call::Fire { rule: 0 },
-            Call::Look {
-                machine: 1,
-                place: 0,
-            },
-            Call::Look {
-                machine: 1,
-                place: 1,
-            },
+            look(1, 0),
+            look(1, 1),
             Call::Fire { rule: 7 },
         ];
         let mut answers = [Ok(Answer::Reset); 5];

@@ -1,7 +1,7 @@
 // What the programs share: reading a file of limited length.
 #![tactic(auto)]
 
-ghost use Rattle.std.specs.Prelude.{◌≤◌, vec_len};
+ghost use Rattle.std.specs.Prelude.{◌≡◌, ◌<◌, ◌≤◌, vec_len};
 
 use std::fs::File;
 use std::io;
@@ -23,12 +23,21 @@ fn first_bytes<R: Files + AllocGlobal>(rt: &R, path: &str, most: u64) -> io::Res
     Ok(bytes)
 }
 
+// These bytes, or none where there are more than `most`.
+fn if_at_most(mut bytes: Vec<u8>, most: u64) -> Vec<u8>
+    ensures kept { vec_len bytes ≤ most → result ≡ bytes }
+    ensures none { most < vec_len bytes → vec_len result ≡ 0 }
+{
+    if most < bytes.len() as u64 {
+        bytes.clear();
+    }
+    bytes
+}
+
 // The bytes of a file. There are none where the file is missing, cannot be read or has more than `most`.
 pub fn read_at_most<R: Files + AllocGlobal>(rt: &R, path: &str, most: u64) -> Vec<u8>
     ensures { vec_len result ≤ most }
 {
-    match first_bytes(rt, path, most) {
-        Ok(bytes) if bytes.len() as u64 <= most => bytes,
-        _ => Vec::new(rt.alloc()),
-    }
+    let bytes = first_bytes(rt, path, most).unwrap_or_else(|_| Vec::new(rt.alloc()));
+    if_at_most(bytes, most)
 }

@@ -1,6 +1,6 @@
 -- The numbers that pass a test, and what is made of each. Assumes nothing.
-use Rattle.std.proofs.Common.{◌≡◌, ℕ, zero, suc, ◌+◌, ◌<◌, ◌≤◌, Bool, true, cond, List, ◌∷◌, map, length, filter, sym, subst, inl, inr, arith}
-use Rattle.std.specs.List.{range_with_len, AllByRecursion}
+use Rattle.std.proofs.Common.{◌≡◌, ℕ, zero, suc, ◌+◌, ◌<◌, ◌≤◌, Bool, true, cond, List, ◌∷◌, map, length, filter, Some, sym, ap, subst, inl, inr, arith}
+use Rattle.std.specs.List.{range_with_len, slice_get, AllByRecursion}
 use Rattle.std.proofs.lemmas.Bool.{cases_Bool, cases_eq}
 use Rattle.model.specs.declared.pattern.Condition.{Condition}
 use Rattle.model.specs.System.{Rise}
@@ -30,6 +30,20 @@ some_kept {X} f t a (suc n) j l u e = elim (cases_eq j a) [
   | inl same ↦ subst (λ (b : Bool). 1 ≤ length (map f (cond b (a ∷ filter t (range_with_len (a + 1) n)) (filter t (range_with_len (a + 1) n))))) (sym (subst (λ (z : ℕ). t z ≡ true) same e)) (omega arith)
   | inr ne ↦ (let rest = some_kept f t (a + 1) n j (omega arith) (omega arith) e in by_first f t (λ (xs : List X). 1 ≤ length xs) a n (λ _. omega arith) rest)
 ]
+
+-- what is made of a number that passes stands at some place
+pub place_kept : {X : Type 0} (f : ℕ → X) (t : ℕ → Bool) (a n j : ℕ) → a ≤ j → j < a + n → t j ≡ true → (k : ℕ) × (slice_get (map f (filter t (range_with_len a n))) k ≡ Some (f j))
+place_kept f t a zero j l u e = absurd (omega arith)
+place_kept {X} f t a (suc n) j l u e =
+    let Listed : List X → Type 0 = λ xs. (k : ℕ) × (slice_get xs k ≡ Some (f j)) in
+    elim (cases_eq j a) [
+      | inl same ↦ subst
+          (λ (b : Bool). Listed (map f (cond b (a ∷ filter t (range_with_len (a + 1) n)) (filter t (range_with_len (a + 1) n)))))
+          (sym (subst (λ (z : ℕ). t z ≡ true) same e))
+          (0, ap (λ (z : ℕ). Some (f z)) (sym same))
+      | inr ne ↦ (let rest = place_kept f t (a + 1) n j (omega arith) (omega arith) e in
+          by_first f t Listed a n (λ _. (suc rest.0, rest.1)) rest)
+    ]
 
 -- machines that rise from line to line rise in the conditions that are kept
 pub rise_kept : (f : ℕ → Condition) (t : ℕ → Bool) (a n low : ℕ)

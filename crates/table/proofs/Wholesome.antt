@@ -11,6 +11,7 @@ use Rattle.table.specs.Findings.{bounds, states_at, GoodMachine, GoodAction, Goo
 use Rattle.table.specs.Header.{OutOfBounds}
 use Rattle.table.specs.Reading.{Reads, Numbered}
 use Rattle.table.proofs.Kept.{all_kept, some_kept, rise_kept}
+use Rattle.table.proofs.Patterns.{climbs}
 use Rattle.table.proofs.Parts.{machines_long, states_at_lem, rules_long, rule_at_lem, patterns_long, pattern_at}
 
 module _ (bs : List ℕ) (reads : Reads bs) where
@@ -130,24 +131,17 @@ module _ (bs : List ℕ) (reads : Reads bs) where
   pub reads_numbered : Numbered bs
   reads_numbered = record { first = begins; next = λ l h. elim (goes_on l h) [ inl x ↦ inl x.0 | inr x ↦ inr x ] }
 
-  climbs : (i d : ℕ) → i + d < pattern_lines_n bs → number_of bs i ≤ number_of bs (i + d)
-  climbs i zero h = let e : i + 0 ≡ i = omega arith in omega (arith, ap (number_of bs) e)
-  climbs i (suc d) h =
-      let e : i + d + 1 ≡ i + suc d = omega arith in
-      let up = climbs i d (omega arith) in
-      elim (goes_on (i + d) (omega arith)) [ inl x ↦ omega (arith, x.0, ap (number_of bs) e) | inr x ↦ omega (arith, x, ap (number_of bs) e) ]
-
   -- within a pattern the machines rise
   mounts : (i d : ℕ) → i + d + 1 < pattern_lines_n bs → number_of bs (i + d + 1) ≡ number_of bs i → machine_of i < machine_of (i + d + 1)
   mounts i zero h e = elim (goes_on (i + 0) h) [
     | inl x ↦ (let z : i + 0 ≡ i = omega arith in omega (arith, x.1, ap (λ (k : ℕ). byte_at bs (pattern_offset bs k + 1)) z))
-    | inr x ↦ absurd (omega (arith, x, climbs i 0 (omega arith)))
+    | inr x ↦ absurd (omega (arith, x, climbs bs reads_numbered i 0 (omega arith)))
   ]
   mounts i (suc d) h e = elim (goes_on (i + suc d) h) [
     | inl x ↦ (let z : i + suc d ≡ i + d + 1 = omega arith in
         let m = mounts i d (omega arith) (ap (number_of bs) (sym z) ∙ sym x.0 ∙ e) in
         omega (arith, x.1, m, ap (λ (k : ℕ). byte_at bs (pattern_offset bs k + 1)) z))
-    | inr x ↦ absurd (omega (arith, x, climbs i (suc d) (omega arith)))
+    | inr x ↦ absurd (omega (arith, x, climbs bs reads_numbered i (suc d) (omega arith)))
   ]
 
   -- every number up to that of a line belongs to some line

@@ -1,11 +1,14 @@
 -- What reading a table answers. Assumes nothing.
-use Rattle.std.specs.Prelude.{◌≡◌, ℕ, ◌+◌, ◌<◌, ◌⊎◌, List, Ok, Err, Result, IfOk}
+use Rattle.std.specs.Prelude.{◌≡◌, ℕ, ◌+◌, ◌<◌, ◌⊎◌, List, length, Some, Ok, Err, Result, IfOk}
+use Rattle.std.specs.List.{slice_get}
 use Rattle.std.specs.Result.{IfErr}
 use Rattle.model.specs.declared.fault.Fault.{Fault}
 use Rattle.model.specs.Order.{Order, Nothing, FirstFault, Answered}
 use Rattle.model.specs.Laid.{laid, NoneIn, FirstIn}
+use Rattle.model.specs.System.{pattern_of}
+use Rattle.table.specs.declared.line.PatternLine.{PatternLine}
 use Rattle.table.specs.Layout.{pattern_lines_n}
-use Rattle.table.specs.SystemOf.{number_of}
+use Rattle.table.specs.SystemOf.{number_of, system_of}
 use Rattle.table.specs.Findings.{Finding, Applies, numbers, order}
 
 -- what a search through an order of findings answers
@@ -36,3 +39,9 @@ FirstListed bs f = (g : Finding) × (f ≡ numbers bs g) × FirstIn (Applies bs)
 pub record Numbered (bs : List ℕ) : Type 0 where
   pub first : 0 < pattern_lines_n bs → number_of bs 0 ≡ 0
   pub next : (l : ℕ) → l + 1 < pattern_lines_n bs → (number_of bs (l + 1) ≡ number_of bs l) ⊎ (number_of bs (l + 1) ≡ number_of bs l + 1)
+
+-- a pattern line belongs to a pattern of the system: its number is that of one, where the numbers go as in a table that reads;
+-- and its condition is then among the conditions of that pattern
+pub record OfPattern (bs : List ℕ) (l : PatternLine) : Type 0 where
+  pub number : Numbered bs → l.number < length (system_of bs).patterns
+  pub condition : l.number < length (system_of bs).patterns → (k : ℕ) × (slice_get (pattern_of (system_of bs) l.number) k ≡ Some l.condition)

@@ -1,6 +1,9 @@
 // Where the parts of a table file lie: a header, then machine lines, rules and pattern lines.
 ghost use Rattle.table.specs.Kinds.{IsKind};
 
+// The edition of the format.
+pub const EDITION: u32 = 1;
+
 // Offsets of the counts in the header.
 pub const MACHINE_COUNT: usize = 2;
 

@@ -106,7 +106,7 @@ impl Line<'_> {
         self.machine_exists()
             && condition.local.is_none_or(|local| local < states)
             && front_exists(condition.front, events)
-            && fits(u64::from(condition.mask), events)
+            && mask_exists(condition.mask, events)
     }
 
     // Whether pattern line `line` follows from the line before and keeps its rules.
@@ -126,4 +126,11 @@ fn front_exists(front: Front, events: u16) -> bool
         Front::Event(event) => u16::from(event) < events,
         _ => true,
     }
+}
+
+// Whether the events of a mask are among so many.
+fn mask_exists(mask: u8, events: u16) -> bool
+    ensures { Decides result (mask < 2 ^ events) }
+{
+    fits(u64::from(mask), events)
 }

@@ -9,7 +9,7 @@ ghost use Rattle.table.specs.Reading.{Finds, FirstErr, Reads, Refuses, NoneListe
 ghost use Rattle.table.specs.SystemOf.{system_of};
 
 use crate::header::{FIELDS, HEADER_LENGTH, check_fields, fault_at};
-use crate::layout::{MOST_MACHINES, MOST_PATTERN_LINES, MOST_RULES};
+use crate::layout::{EDITION, MOST_MACHINES, MOST_PATTERN_LINES, MOST_RULES};
 use crate::view::{Table, machine_offset};
 use model::fault::{Fault, Refusal};
 use model::mask::MOST_EVENTS;
@@ -31,7 +31,7 @@ impl<'a> Table<'a> {
         let rules_at = self.rule_offset(0);
         let patterns_at = self.pattern_offset(0);
         [
-            (1, 1),
+            (EDITION, EDITION),
             (1, MOST_MACHINES as u32),
             (1, u32::from(MOST_EVENTS)),
             (0, MOST_RULES as u32),

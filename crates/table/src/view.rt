@@ -1,10 +1,11 @@
 // A table over the bytes that it is read from.
-ghost use Rattle.std.specs.Prelude.{◌≡◌, ◌^◌, ◌<◌, length};
+ghost use Rattle.std.specs.Prelude.{◌≡◌, ◌^◌, ◌<◌, length, IfSome};
 ghost use Rattle.std.specs.List.{slice_get};
 ghost use Rattle.model.specs.System.{machines};
 ghost use Rattle.table.specs.Bytes.{byte_at};
 ghost use Rattle.table.specs.Layout.{machine_offset, rule_offset, pattern_offset};
 ghost use Rattle.table.specs.SystemOf.{system_of, pattern_lines_of};
+ghost use Rattle.table.specs.Reading.{OfPattern};
 
 use crate::bytes::word;
 use crate::header::HEADER_LENGTH;
@@ -99,7 +100,8 @@ impl<'a> Table<'a> {
     // The pattern line of that number, if there is one.
     #[tactic(auto, using(crate::proofs::Parts::counted))]
     pub fn pattern_line(&self, number: u16) -> Option<PatternLine>
-        ensures { result ≡ slice_get (pattern_lines_of self.now.bytes.now) number }
+        ensures is { result ≡ slice_get (pattern_lines_of self.now.bytes.now) number }
+        ensures of_pattern { IfSome result (OfPattern self.now.bytes.now) }
     {
         (number < self.pattern_line_count()).then_some(
             self.line_at(self.pattern_offset(number)).pattern_line(),
