@@ -6,3 +6,4 @@ mod Hosting
 pub mod Runs
 mod Hindered
 mod Only
+mod Promising
