@@ -5,3 +5,4 @@ mod Hosting
 pub mod Runs
 mod Hindered
 mod Only
+mod Promising

@@ -47,6 +47,7 @@ pub fn rehearse<A: QueueAbstraction>(
 }
 
 // The check, with what it promises of every run of a controller.
+#[tactic(auto, using(crate::proofs::Promising::promised))]
 pub fn check_for_runs<'a, A: QueueAbstraction>(
     table: &'a [u8],
     set: &[u8],
