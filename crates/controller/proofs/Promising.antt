@@ -21,8 +21,8 @@ answered S cap = record { some = λ calls. reference_runs S cap calls (start S);
 
 -- the check, of all runs
 pub promised : (table set : List ℕ) (T : Claim) (x : Result Pass Fault) → Checked table set T x → Promised table set T x
-promised table set T (Ok p) h = record { checked = h; exactly = h.2; first = tt; safe = h.3; runs = runs_safe T.system h.3.never; answers = λ cap. answered T.system cap; reached = runs_reach T.system; steps = exact_steps T.system; refusals = λ cap r s. first_hindrance T.system cap s r }
-promised table set T (Err f) h = record { checked = h; exactly = h.0; first = h.1; safe = tt; runs = tt; answers = λ cap. answered T.system cap; reached = runs_reach T.system; steps = exact_steps T.system; refusals = λ cap r s. first_hindrance T.system cap s r }
+promised table set T (Ok p) h = record { checked = h; exactly = h.2; first = tt; alone = h.4; safe = h.3; runs = runs_safe T.system h.3.never; answers = λ cap. answered T.system cap; reached = runs_reach T.system; steps = exact_steps T.system; refusals = λ cap r s. first_hindrance T.system cap s r }
+promised table set T (Err f) h = record { checked = h; exactly = h.0; first = h.1; alone = h.2; safe = tt; runs = tt; answers = λ cap. answered T.system cap; reached = runs_reach T.system; steps = exact_steps T.system; refusals = λ cap r s. first_hindrance T.system cap s r }
 
 -- a controller at the start that was asked calls, of its system and capacity by any names
 pub ran : {S0 S : System} {cap0 cap : ℕ} {s t : State} {calls : List Call} {places answers : List (Result Answer Fault)} → answers ≡ filled (answers_to S0 cap0 s (made calls places)) places → t ≡ after S0 cap0 s (made calls places) → s ≡ start S0 → S0 ≡ S → cap0 ≡ cap → Ran S cap calls places answers t
