@@ -8,10 +8,10 @@ use Rattle.checker.proofs.parts.ReadTable.pattern_line.Goals as goal
 pub unwrap-requires : goal.unwrap-requires
 unwrap-requires c =
     let bs = c.args.self.now.view.bytes.now in
-    ap is_some (c.pattern_line.ensures ∙ nth_counted (λ l. pattern_line_at bs (pattern_offset bs l)) (pattern_lines_n bs) c.args.l c.requires)
+    ap is_some (c.pattern_line.ensures.is ∙ nth_counted (λ l. pattern_line_at bs (pattern_offset bs l)) (pattern_lines_n bs) c.args.l c.requires)
 
 pub returns : goal.returns
 returns c =
     let bs = c.args.self.now.view.bytes.now in
     same_Some c.unwrap.result (pattern_line_at bs (pattern_offset bs c.args.l))
-    (sym c.unwrap.ensures ∙ c.pattern_line.ensures ∙ nth_counted (λ l. pattern_line_at bs (pattern_offset bs l)) (pattern_lines_n bs) c.args.l c.requires)
+    (sym c.unwrap.ensures ∙ c.pattern_line.ensures.is ∙ nth_counted (λ l. pattern_line_at bs (pattern_offset bs l)) (pattern_lines_n bs) c.args.l c.requires)
