@@ -1,5 +1,5 @@
 use Rattle.std.proofs.Common.{ℕ, ◌<◌, length, sym, refl, ap, ◌∙◌, subst, rules, arith}
-use Rattle.std.proofs.lemmas.Iterator.{cases_from_all, serves_from_Range, YieldsList-from_range}
+use Rattle.std.proofs.lemmas.Iterator.{cases_from_all, YieldsList-from_range}
 use borrow.Author.Tests.{tests}
 use Rattle.model.specs.System.{machines, states_of}
 use Rattle.abstraction.specs.Meaning.{Good}
@@ -11,9 +11,6 @@ use Rattle.table.proofs.Parts.{machines_long}
 use Rattle.table.specs.Layout.{events_n}
 use Rattle.table.specs.SystemOf.{system_of}
 use Rattle.checker.proofs.case.Case.is_sound.Goals as goal
-
-pub all-requires-clause-callable : goal.all-requires-clause-callable
-all-requires-clause-callable g c = serves_from_Range (λ x q k. search rules) (λ x a b. (omega arith, omega (arith, c.requires.machines)))
 
 pub returns : goal.returns
 returns g c =

@@ -7,14 +7,8 @@ use Rattle.abstraction.specs.Meaning.{Good}
 use Rattle.checker.specs.Case.{claim_at}
 use Rattle.checker.proofs.step.Step.check_send.Goals as goal
 
-pub entry-there-requires : goal.entry-there-requires
-entry-there-requires g c = omega (arith, (sends_there c.args.self.now c.requires.action).1, c.requires.sound.machines)
-
 pub entry-local-requires : goal.entry-local-requires
 entry-local-requires g c = omega (arith, (sends_there c.args.self.now c.requires.action).1, c.moved-next.ensures.machines)
-
-pub with-sent-requires : goal.with-sent-requires
-with-sent-requires g c = omega (arith, (sends_there c.args.self.now c.requires.action).1, c.moved-next.ensures.machines)
 
 pub returns-in_default : goal.returns-in_default
 returns-in_default g c =
