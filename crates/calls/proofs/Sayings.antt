@@ -50,25 +50,25 @@ one line (Asked (Look m a)) (Asked (Look n b)) p q e =
 one line NotUnderstood NotUnderstood p q e = refl
 one line _ _ p q e = absurd (omega arith)
 
-says_one : (line : List ℕ) (s t : Line) → Says line s → Says line t → s ≡ t
+pub says_one : (line : List ℕ) (s t : Line) → Says line s → Says line t → s ≡ t
 says_one line s t p q = one line s t p q (sym (begins line s p) ∙ begins line t q)
 
 -- what is not skipped, sets no capacity and asks for nothing says nothing
-says_nothing : (line : List ℕ) → (Says line Skipped → ⊥) → ((n : ℕ) → Says line (Capacity n) → ⊥) → ((call : Call) → Says line (Asked call) → ⊥) → (other : Line) → Says line other → ⊥
+pub says_nothing : (line : List ℕ) → (Says line Skipped → ⊥) → ((n : ℕ) → Says line (Capacity n) → ⊥) → ((call : Call) → Says line (Asked call) → ⊥) → (other : Line) → Says line other → ⊥
 says_nothing line skip capacity call Skipped h = skip h
 says_nothing line skip capacity call (Capacity n) h = capacity n h
 says_nothing line skip capacity call (Asked x) h = call x h
 says_nothing line skip capacity call NotUnderstood h = h
 
 -- a line that says something reads as that alone
-reads_one : (line : List ℕ) (s : Line) → Says line s → (other : Line) → Reads line other → other ≡ s
+pub reads_one : (line : List ℕ) (s : Line) → Says line s → (other : Line) → Reads line other → other ≡ s
 reads_one line s h Skipped r = says_one line Skipped s r h
 reads_one line s h (Capacity n) r = says_one line (Capacity n) s r h
 reads_one line s h (Asked call) r = says_one line (Asked call) s r h
 reads_one line s h NotUnderstood r = absurd (r s h)
 
 -- a line that says nothing is not understood
-reads_none : (line : List ℕ) → ((other : Line) → Says line other → ⊥) → (other : Line) → Reads line other → other ≡ NotUnderstood
+pub reads_none : (line : List ℕ) → ((other : Line) → Says line other → ⊥) → (other : Line) → Reads line other → other ≡ NotUnderstood
 reads_none line h Skipped r = absurd (h Skipped r)
 reads_none line h (Capacity n) r = absurd (h (Capacity n) r)
 reads_none line h (Asked call) r = absurd (h (Asked call) r)
@@ -86,7 +86,7 @@ writes_decimal limit n small top =
     let d = decimal_is_IsNumeral n (omega arith) in record { digits = d.0; is = d.1; small = small }
 
 -- a call is read as it is written
-asks_written : (call : Call) → InRange call → Asks (written call) call
+pub asks_written : (call : Call) → InRange call → Asks (written call) call
 asks_written (Fire r) small =
     record { rest = decimal r; split = refl; holds = writes_decimal 65536 r small (omega arith) }
 asks_written Reset small = refl
@@ -105,7 +105,7 @@ asks_written (Look m p) small =
     }
 
 -- a line in which a call is written reads as that call
-reads_back : (line : List ℕ) (r : Line) → ((other : Line) → Reads line other → other ≡ r) → (call : Call) → InRange call → line ≡ written call → r ≡ Asked call
+pub reads_back : (line : List ℕ) (r : Line) → ((other : Line) → Reads line other → other ≡ r) → (call : Call) → InRange call → line ≡ written call → r ≡ Asked call
 reads_back line r only call small e =
     sym (only (Asked call) (subst (λ (l : List ℕ). Asks l call) (sym e) (asks_written call small)))
 
