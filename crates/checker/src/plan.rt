@@ -23,11 +23,12 @@ const CELLS: usize = MACHINES as usize * MOST_LOCAL_STATES as usize;
 
 const TAKER_CELLS: usize = MOST_EVENTS as usize * CELLS;
 
-// A rule, and the next one of the same cell.
+// A rule, and the next one of the same cell. The number of a rule is held as a `u8`, here and in the tables below: there
+// are at most 256 rules, and the plan lies on the stack.
 #[derive(Clone, Copy)]
 pub(crate) struct Link {
     rule: Rule,
-    next: Option<u16>,
+    next: Option<u8>,
 }
 
 // The rules, and for each machine and local state the chain of its rules. Cells are numbered: arrays of arrays would be
@@ -37,7 +38,7 @@ pub(crate) struct Chains {
     // by number, in fixed memory: a link is a number
     links: [Link; MOST_RULES],
     // the first rule of each cell
-    heads: [Option<u16>; CELLS],
+    heads: [Option<u8>; CELLS],
 }
 
 // All of it lies in fixed memory, since nothing is allocated on the way to a verdict.
@@ -45,7 +46,7 @@ pub(crate) struct Chains {
 pub(crate) struct Plan {
     chains: Chains,
     // a rule by which a machine in a local state may take an event: a hint
-    takers: [Option<u16>; TAKER_CELLS],
+    takers: [Option<u8>; TAKER_CELLS],
     lines: [PatternLine; MOST_PATTERN_LINES],
 }
 
@@ -99,7 +100,7 @@ impl Chains {
             rule: added,
             next: self.heads[at],
         };
-        self.heads[at] = Some(r);
+        self.heads[at] = Some(r as u8);
     }
 
     // The chains of a table's rules.
@@ -130,14 +131,14 @@ impl Plan {
     }
 
     // Some rule by which each event is taken, where there is one.
-    fn takers_of(table: &ReadTable<'_>) -> [Option<u16>; TAKER_CELLS]
+    fn takers_of(table: &ReadTable<'_>) -> [Option<u8>; TAKER_CELLS]
         ensures { (x : ℕ) → IfSome (slice_index_or result x None) (λ r. r < rules_n table.now.view.bytes.now) }
     {
         let mut takers = [None; TAKER_CELLS];
         for r in 0..table.view.rule_count() {
             let taker = table.rule(r);
             if let Action::Take { event } = taker.action {
-                takers[taker_cell(taker.machine, taker.from, event)] = Some(r);
+                takers[taker_cell(taker.machine, taker.from, event)] = Some(r as u8);
             }
         }
         takers
@@ -175,7 +176,7 @@ impl Plan {
     pub(crate) fn first(&self, machine: u8, local: u8) -> Option<u16>
         ensures { result ≡ slice_index_or self.now.chains.heads (cell_of machine local) None }
     {
-        self.chains.heads[cell(machine, local)]
+        self.chains.heads[cell(machine, local)].map(u16::from)
     }
 
     // The next such rule after rule `r`.
@@ -183,7 +184,7 @@ impl Plan {
         requires { r < 256 }
         ensures { result ≡ (slice_index_or self.now.chains.links r no_link).next }
     {
-        self.chains.links[r as usize].next
+        self.chains.links[r as usize].next.map(u16::from)
     }
 
     // Whether the rule that is kept for it lets a machine in a local state take an event.
@@ -192,7 +193,7 @@ impl Plan {
         ensures { result ≡ true → NoTake (system_of table.now.view.bytes.now) machine local event → ⊥ }
     {
         self.takers[taker_cell(machine, local, event)].is_some_and(|r| takes(
-            self.rule(r),
+            self.rule(u16::from(r)),
             machine,
             local,
             event,

@@ -40,8 +40,9 @@ impl<A: QueueAbstraction> Step<'_, '_, '_, A> {
     {
         let from = self.judgement;
         let near = hints.place(from.k, self.r, c);
-        let found = from.judge.case.set.find(target, near);
-        let place = found.ok_or(from.fault(Refusal::StepOutside, self.r, c))?;
+        let Some(place) = from.judge.case.set.find(target, near) else {
+            return Err(from.fault(Refusal::StepOutside, self.r, c));
+        };
         hints.found(from.k, self.r, c, place);
         Ok(())
     }

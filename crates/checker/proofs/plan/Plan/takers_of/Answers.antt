@@ -26,6 +26,9 @@ loop-r-init c = (refl, below_none (rules_n c.args.table.now.view.bytes.now) 2048
 pub rule-taker-requires : goal.rule-taker-requires
 rule-taker-requires c = omega (arith, rules_long c.args.table.now.view.bytes.now)
 
+pub overflow_cast-takers : goal.overflow_cast-takers
+overflow_cast-takers c = omega (arith, rules_long c.args.table.now.view.bytes.now, c.args.table.now.ready.rules)
+
 pub loop-r-preserved : goal.loop-r-preserved
 loop-r-preserved c =
     let n = rules_n c.args.table.now.view.bytes.now in
