@@ -67,8 +67,8 @@ module _ {A : Type 0} (j : Judgement A) where
   rule_in lt = rule_of_system proper_at (omega (arith, rules_long (table_at j), lt)) refl
 
   -- what the plan has as rule r is the table's
-  pub rule_at : {r : ℕ} {x : Rule} → r < rules_n (table_at j) → x ≡ (slice_index_or j.judge.now.plan.chains.links r no_link).rule → RuleOf (system_of (table_at j)) r x
-  rule_at {r} lt is = rule_of_system proper_at (omega (arith, rules_long (table_at j), lt)) (is ∙ j.judge.now.planned.chained.rules r (omega arith) lt)
+  pub rule_at : {r : ℕ} {x : Rule} → r < rules_n (table_at j) → x ≡ (slice_index_or j.plan.now.chains.links r no_link).rule → RuleOf (system_of (table_at j)) r x
+  rule_at {r} lt is = rule_of_system proper_at (omega (arith, rules_long (table_at j), lt)) (is ∙ j.planned.chained.rules r (omega arith) lt)
 
 -- what is read from a case's set as record k is held as that record
 pub read_judging : {A : Type 0} (q : queue_abstraction.Ghosts A) (c : Case A) (m : ℕ) {k : ℕ} {h : Held} → k < records_n c.set.bytes.now → m ≡ machines_n c.table.view.bytes.now → record_in h ≡ record_at m c.set.bytes.now k → h.machines ≡ m → Sound (claim q c) (record_of (claim q c) k) → Judging (claim q c) (machines_n c.table.view.bytes.now) k h

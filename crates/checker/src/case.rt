@@ -37,21 +37,22 @@ impl<'t, 'a, A> Case<'t, 'a, A> {
     }
 }
 
-// A case whose set is as long as it says and has records that rise, and the plan of its table.
+// A case whose set is as long as it says and has records that rise. The plan of its table isn't here: it is made once the
+// records are judged, so that no set that is refused before pays for it.
 #[derive(Drop)]
 pub(crate) struct Judge<'t, 'a, A> {
     pub(crate) case: &'a Case<'t, 'a, A>,
-    pub(crate) plan: Plan,
     ghost rising: { SetReady (machines_n case.now.table.view.bytes.now) case.now.set.bytes.now } by { set_ready_prop (machines_n case.now.table.view.bytes.now) case.now.set.bytes.now },
-    ghost planned: { Planned case.now.table.view.bytes.now plan } by { planned_prop case.now.table.view.bytes.now plan },
 }
 
-// Record `k` of the set, as it is held. That it is sound is asked of callers: a good code names some queue, so a ghost
-// field could only say that there is a proof, `∥ .. ∥₁`. A lemma that opens that for a clause as `Decides` was tried, and
-// asks that any two queues are equal.
+// Record `k` of the set, as it is held, and the plan of its table. That it is sound is asked of callers: a good code names
+// some queue, so a ghost field could only say that there is a proof, `∥ .. ∥₁`. A lemma that opens that for a clause as
+// `Decides` was tried, and asks that any two queues are equal.
 #[derive(Drop)]
 pub(crate) struct Judgement<'t, 'a, A> {
     pub(crate) judge: &'a Judge<'t, 'a, A>,
+    pub(crate) plan: &'a Plan,
     pub(crate) k: u16,
     pub(crate) held: Held,
+    ghost planned: { Planned judge.now.case.now.table.view.bytes.now plan.now } by { planned_prop judge.now.case.now.table.view.bytes.now plan.now },
 }

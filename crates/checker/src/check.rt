@@ -9,7 +9,6 @@ ghost use Rattle.checker.specs.Verdict.{closed_order, set_order};
 
 use crate::case::{Case, Judge};
 use crate::pass::{FULL_CAPACITY, Pass};
-use crate::plan::Plan;
 use crate::state_set::StateSet;
 use abstraction::QueueAbstraction;
 use model::fault::{Fault, Refusal};
@@ -37,10 +36,7 @@ impl<A: QueueAbstraction> Case<'_, '_, A> {
         ensures closed { OnOk result (Closed (claim A.QueueAbstraction self.now)) }
     {
         self.check_form()?;
-        let judge = Judge {
-            case: self,
-            plan: Plan::of(&self.table),
-        };
+        let judge = Judge { case: self };
         judge.check_closed()
     }
 }

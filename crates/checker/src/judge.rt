@@ -8,6 +8,7 @@ ghost use Rattle.checker.specs.Inner.{Calm};
 use crate::case::{Judge, Judgement};
 use crate::held::Held;
 use crate::hints::Hints;
+use crate::plan::Plan;
 use abstraction::QueueAbstraction;
 use model::fault::{Fault, Refusal};
 
@@ -43,12 +44,14 @@ impl<A: QueueAbstraction> Judge<'_, '_, A> {
         ensures { Judged (claim A.QueueAbstraction self.now.case.now) (judged (claim A.QueueAbstraction self.now.case.now)) result }
     {
         let n = self.case.table.machines();
+        let plan = Plan::of(&self.case.table);
         let mut hints = Hints::none();
         let mut last = Held::uniform(n, 0);
         for k in 0..self.case.set.record_count() {
             let held = self.case.set.record(n, k);
             let judgement = Judgement {
                 judge: &*self,
+                plan: &plan,
                 k,
                 held,
             };

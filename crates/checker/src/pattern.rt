@@ -46,7 +46,7 @@ impl<A: QueueAbstraction> Judgement<'_, '_, A> {
         requires below { l < pattern_lines_n (table_at self.now) }
         ensures { MatchBool result (Keeps (claim_at A.QueueAbstraction self.now) (table_at self.now) self.now.k n l) (number_of (table_at self.now) l ≡ n → MayHold (claim_at A.QueueAbstraction self.now) (record_of (claim_at A.QueueAbstraction self.now) self.now.k) (pattern_line_at (table_at self.now) (pattern_offset (table_at self.now) l)).condition) }
     {
-        let line = self.judge.plan.line(l);
+        let line = self.plan.line(l);
         if u16::from(line.number) != n {
             return false;
         }

@@ -156,7 +156,7 @@ impl<A: QueueAbstraction> Judgement<'_, '_, A> {
         requires below { r < rules_n (table_at self.now) }
         ensures { Finds A.QueueAbstraction self.now (outcomes_of (claim_at A.QueueAbstraction self.now) self.now.k r) result }
     {
-        let rule = self.judge.plan.rule(r);
+        let rule = self.plan.rule(r);
         let own = self.held.entry(rule.machine);
         if own.local != rule.from {
             return Ok(());
@@ -175,7 +175,7 @@ impl<A: QueueAbstraction> Judgement<'_, '_, A> {
         requires below { i < machines_n (table_at self.now) }
         ensures { result ≡ true → (r : ℕ) → r < rules_n (table_at self.now) → (rule_of (system_of (table_at self.now)) r).machine ≡ i → Nothing (Applies (claim_at A.QueueAbstraction self.now)) (outcomes_of (claim_at A.QueueAbstraction self.now) self.now.k r) }
     {
-        let plan = &self.judge.plan;
+        let plan = self.plan;
         let mut next = plan.first(i, self.held.entry(i).local);
         // a walk along a chain: std says of `iter::successors` that it has no end, so `all` over it asks for a proof of `⊥`
         while let Some(r) = next {

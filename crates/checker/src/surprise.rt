@@ -22,7 +22,7 @@ impl<A: QueueAbstraction> Judgement<'_, '_, A> {
     {
         let case = self.judge.case;
         let entry = self.held.entry(i);
-        if self.judge.plan.has_taker(&case.table, i, entry.local, e) {
+        if self.plan.has_taker(&case.table, i, entry.local, e) {
             return false;
         }
         if !case

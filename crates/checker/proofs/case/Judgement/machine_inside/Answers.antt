@@ -20,7 +20,7 @@ loop-next-preserved g c =
     let r = c.in-Some.r in
     let P : ℕ → Type 0 = λ j. Nothing (Applies T) (outcomes_of T c.args.self.now.k j) in
     let w = subst (Walked P bs x) c.in-Some.is c.loop-next.invariant in
-    let on = subst (FirstFrom bs (cell_at bs r) (r + 1)) (sym c.after-next.ensures) (c.args.self.now.judge.now.planned.chained.next r (omega arith) w.0) in
+    let on = subst (FirstFrom bs (cell_at bs r) (r + 1)) (sym c.after-next.ensures) (c.args.self.now.planned.chained.next r (omega arith) w.0) in
     walk_on P bs x r c.after-next.result w (judged_ok T (outcomes_of T c.args.self.now.k r) c.check_rule.result (sym c.is_err.ensures.value ∙ c.if-is_err.false) c.check_rule.ensures) (subst (λ (z : ℕ). FirstFrom bs z (r + 1) c.after-next.result) w.1 on)
 
 pub returns : goal.returns
