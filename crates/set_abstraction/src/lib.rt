@@ -15,11 +15,21 @@ use model::queue::Front;
 #[derive(Clone, Copy, PartialEq, Eq, Debug, Default)]
 pub struct SetAbstraction;
 
-// The n-th event of the set, upwards.
+// The n-th event of the set, upwards. A loop that counts down: `filter` and `nth` make two loops, one in the other, and
+// most of a check of such codes is spent here.
 fn nth_event(m: u8, c: u64, n: u64) -> Option<u8>
     ensures { result ≡ slice_get (filter (present c) (range_with_len 0 m)) n }
 {
-    (0..m).filter(|e| has(c, *e)).nth(n as usize)
+    let mut left = n;
+    for e in 0..m {
+        if has(c, e) {
+            if left == 0 {
+                return Some(e);
+            }
+            left -= 1;
+        }
+    }
+    None
 }
 
 impl QueueAbstraction for SetAbstraction {
