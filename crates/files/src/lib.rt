@@ -23,13 +23,13 @@ fn first_bytes<R: Files + AllocGlobal>(rt: &R, path: &str, most: u64) -> io::Res
     Ok(bytes)
 }
 
-// These bytes, or none where there are more than `most`.
-fn if_at_most(mut bytes: Vec<u8>, most: u64) -> Vec<u8>
+// These bytes, or none where there are more than `most`: then the memory of these is freed.
+fn if_at_most<R: AllocGlobal>(rt: &R, bytes: Vec<u8>, most: u64) -> Vec<u8>
     ensures kept { vec_len bytes ≤ most → result ≡ bytes }
     ensures none { most < vec_len bytes → vec_len result ≡ 0 }
 {
     if most < bytes.len() as u64 {
-        bytes.clear();
+        return Vec::new(rt.alloc());
     }
     bytes
 }
@@ -39,5 +39,5 @@ pub fn read_at_most<R: Files + AllocGlobal>(rt: &R, path: &str, most: u64) -> Ve
     ensures { vec_len result ≤ most }
 {
     let bytes = first_bytes(rt, path, most).unwrap_or_else(|_| Vec::new(rt.alloc()));
-    if_at_most(bytes, most)
+    if_at_most(rt, bytes, most)
 }

@@ -86,7 +86,11 @@ impl<'a> Table<'a> {
     pub fn local_states(&self, machine: u16) -> Option<u8>
         ensures { result ≡ slice_get (system_of self.now.bytes.now).states machine }
     {
-        (machine < self.machine_count()).then_some(self.line_at(machine_offset(machine)).byte(0))
+        if machine < self.machine_count() {
+            Some(self.line_at(machine_offset(machine)).byte(0))
+        } else {
+            None
+        }
     }
 
     // The rule of that number, if there is one.
@@ -94,7 +98,11 @@ impl<'a> Table<'a> {
     pub fn rule(&self, number: u16) -> Option<Rule>
         ensures { result ≡ slice_get (system_of self.now.bytes.now).rules number }
     {
-        (number < self.rule_count()).then_some(self.line_at(self.rule_offset(number)).rule())
+        if number < self.rule_count() {
+            Some(self.line_at(self.rule_offset(number)).rule())
+        } else {
+            None
+        }
     }
 
     // The pattern line of that number, if there is one.
@@ -103,9 +111,11 @@ impl<'a> Table<'a> {
         ensures is { result ≡ slice_get (pattern_lines_of self.now.bytes.now) number }
         ensures of_pattern { IfSome result (OfPattern self.now.bytes.now) }
     {
-        (number < self.pattern_line_count()).then_some(
-            self.line_at(self.pattern_offset(number)).pattern_line(),
-        )
+        if number < self.pattern_line_count() {
+            Some(self.line_at(self.pattern_offset(number)).pattern_line())
+        } else {
+            None
+        }
     }
 
     // The line that begins at an offset.
