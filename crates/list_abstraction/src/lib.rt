@@ -32,11 +32,11 @@ fn read(m: u8, c: u64) -> Option<u8>
         if !(1..=m).contains(&digit) {
             return None;
         }
-        let e = digit - 1;
-        if has(u64::from(mask), e) {
+        let one = bit(digit - 1);
+        if within(one, mask) {
             return None;
         }
-        mask |= bit(e);
+        mask |= one;
         rest /= 16;
     }
     Some(mask)

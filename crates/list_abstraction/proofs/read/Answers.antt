@@ -1,8 +1,8 @@
-use Rattle.std.proofs.Common.{◌≡◌, ℕ, ◌+◌, ◌-◌, ◌*◌, ◌/◌, ◌%◌, ◌^◌, ◌<◌, ◌≤◌, sym, refl, subst, arith, rules}
+use Rattle.std.proofs.Common.{◌≡◌, ℕ, ◌+◌, ◌-◌, ◌*◌, ◌/◌, ◌%◌, ◌^◌, ◌<◌, ◌≤◌, sym, refl, ap, ◌∙◌, subst, arith, rules}
 use lib.Bits.{bit_or}
 use Rattle.std.proofs.lemmas.Bool.Decides.{not_from_Decides}
 use Rattle.model.specs.Queue.{Bit}
-use Rattle.abstraction.proofs.Masks.{tells_bit}
+use Rattle.model.proofs.Bitwise.{pow_bit, bit_pow}
 use Rattle.list_abstraction.proofs.Prefix.{Far, far_more, far_done, far_next}
 use Rattle.list_abstraction.proofs.read.Goals as goal
 
@@ -15,12 +15,21 @@ returns-then-not-contains c g =
     let u : c.loop-rest.rest % 16 ≤ c.args.m = omega arith in
     search rules
 
-pub returns-then-has : goal.returns-then-has
-returns-then-has c g =
+-- the mask of one event that stands in a mask
+module _ (mask one e : ℕ) (o : one ≡ 2 ^ e) where
+  one_in : ((f : ℕ) → Bit one f → Bit mask f) → Bit mask e
+  one_in h = h e (subst (λ (x : ℕ). Bit x e) (sym o) (pow_bit e))
+
+  in_one : Bit mask e → (f : ℕ) → Bit one f → Bit mask f
+  in_one b f h = subst (Bit mask) (sym (bit_pow e f (subst (λ (x : ℕ). Bit x f) o h))) b
+
+pub returns-then-within : goal.returns-then-within
+returns-then-within c g =
     let v = c.if-not-valid.ensures.0 refl in
     let (e, r, p, l, n) = far_next c.args.m c.args.c v _ _ c.loop-rest.invariant g c.loop-rest-test.true in
     let q : c.loop-rest.rest % 16 - 1 ≡ e = omega arith in
-    n (subst (Bit c.loop-rest.mask) q ((tells_bit _ _ c.has.ensures c.from.ensures).0 c.if-has.true))
+    let o : c.bit-one.result ≡ 2 ^ e = c.bit-one.ensures.event (omega (arith, l, q, v.few)) ∙ ap (λ (x : ℕ). 2 ^ x) q in
+    n (one_in _ _ e o (c.if-within.ensures.0 refl))
 
 pub loop-rest-preserved : goal.loop-rest-preserved
 loop-rest-preserved c =
@@ -31,8 +40,8 @@ loop-rest-preserved c =
     let p : rest ≡ 16 * (rest / 16) + e + 1 = omega (arith, r.0) in
     let l : e < c.args.m = omega (arith, r.0, r.1) in
     let f = subst (λ (x : ℕ). Far c.args.m c.args.c x c.loop-rest.mask) p c.loop-rest.invariant in
-    let o : c.bit-mask.result ≡ 2 ^ e = c.bit-mask.ensures.event (omega (arith, l, v.few)) in
-    let n : Bit c.loop-rest.mask e → ⊥ = not_from_Decides _ (tells_bit _ _ c.has.ensures c.from.ensures) c.if-has.false in
+    let o : c.bit-one.result ≡ 2 ^ e = c.bit-one.ensures.event (omega (arith, l, v.few)) in
+    let n : Bit c.loop-rest.mask e → ⊥ = λ b. not_from_Decides _ c.within.ensures c.if-within.false (in_one _ _ e o b) in
     subst (λ (x : ℕ). Far c.args.m c.args.c (rest / 16) (bit_or c.loop-rest.mask x)) (sym o)
     (far_more c.args.m c.args.c v (rest / 16) c.loop-rest.mask e f l n)
 
