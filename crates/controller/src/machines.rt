@@ -44,7 +44,10 @@ impl Machines {
     pub(crate) fn restart(&mut self)
         ensures { self.new ≡ replicate (length self.old) (0, []) }
     {
-        *self = Machines::at_start(self.entries.len() as u8);
+        // entry by entry: a new vector would blank its unused places too, and be moved here whole
+        for entry in self.entries.as_mut_slice() {
+            *entry = Entry::at_start();
+        }
     }
 
     // The local state of a machine; where there is no such machine, 0.
